@@ -1,0 +1,11 @@
+pub mod Lists
+pub mod Project
+pub mod Calendar
+pub mod Usage
+pub mod Serial
+pub mod Order
+pub mod Schedule
+pub mod Laws
+pub mod Misfit
+pub mod Parts
+pub mod View
