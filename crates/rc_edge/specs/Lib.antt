@@ -1,0 +1,11 @@
+pub mod Faults
+pub mod Files
+pub mod Sink
+pub mod Fetches
+pub mod MemFiles
+pub mod MemSink
+pub mod Tokens
+pub mod Numbers
+pub mod TextFault
+pub mod Grammar
+pub mod Entries
