@@ -1,0 +1,6 @@
+pub mod Activities
+pub mod KindLaws
+pub mod ListLaws
+pub mod PartsLaws
+pub mod Rows
+pub mod TextLaws

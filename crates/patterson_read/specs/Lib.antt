@@ -1,0 +1,3 @@
+pub mod ListFile
+pub mod Rcp
+pub mod View
