@@ -1,0 +1,9 @@
+pub mod Network
+pub mod Tables
+pub mod Removal
+pub mod Follows
+pub mod Ring
+pub mod NetView
+pub mod NetFault
+pub mod ListFault
+pub mod Laws
