@@ -1,0 +1,11 @@
+pub mod GreatestLaws
+pub mod ChainLaws
+pub mod LongestLaws
+pub mod WindowLaws
+pub mod TableLaws
+pub mod FillLaws
+pub mod WorkLaws
+pub mod BoundLaws
+pub mod CapacityLaws
+pub mod ReadLaws
+pub mod Rows
