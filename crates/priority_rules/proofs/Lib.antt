@@ -1,0 +1,11 @@
+pub mod DistinctLaws
+pub mod EligibleLaws
+pub mod ChoiceLaws
+pub mod FreeLaws
+pub mod CountingLaws
+pub mod SwapLaws
+pub mod ReleaseLaws
+pub mod ChoosingLaws
+pub mod NumberLaws
+pub mod RuleLaws
+pub mod Rows

@@ -1,0 +1,5 @@
+pub mod Choices
+pub mod KeyList
+pub mod Rules
+pub mod Choosing
+pub mod Laws
