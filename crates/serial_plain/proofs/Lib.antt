@@ -1,0 +1,3 @@
+pub mod CalendarLaws
+pub mod TableLaws
+pub mod SchemeLaws
