@@ -1,0 +1,10 @@
+pub mod Status
+pub mod Table
+pub mod Parts
+pub mod Given
+pub mod Numbers
+pub mod Words
+pub mod Refusal
+pub mod Outcome
+pub mod Causes
+pub mod Run

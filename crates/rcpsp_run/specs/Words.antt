@@ -1,0 +1,104 @@
+-- The words of the command line, and what they say.
+use Rattle.std.specs.Prelude.{◌≡◌, ℕ, ◌-◌, ◌&&◌, not, Bool, false, List, [], ◌∷◌, length, drop, count_by, nat_le, Option, None, Some, option_and_then, codes, if◌then◌else◌, Result, Ok, Err}
+use Rattle.std.specs.List.{list_any}
+use Rattle.std.specs.Option.{option_map}
+use Rattle.std.specs.Str.{bytes_eq, str_eq_ignore_ascii_case}
+use Rattle.rcpsp_run.specs.declared.options.Options.{Options}
+use Rattle.rcpsp_run.specs.declared.options.Command.{Command}
+use Rattle.rcpsp_run.specs.declared.options.Command.TheVariants as command
+use Rattle.rcpsp_run.specs.declared.options.Format.{Format}
+use Rattle.rcpsp_run.specs.declared.options.Format.TheVariants.{Rcp}
+use Rattle.rcpsp_run.specs.declared.options.Order.{Order}
+use Rattle.rcpsp_run.specs.declared.options.Order.TheVariants as order
+use Rattle.priority_rules.specs.declared.rule.Rule.{Rule}
+use Rattle.priority_rules.specs.declared.rule.Rule.TheVariants.{Number, Lft, Lst, Mts, Grpw}
+use Rattle.rcpsp_run.specs.declared.table.Verb.{Verb}
+use Rattle.rcpsp_run.specs.declared.table.Verb.TheVariants as verb
+use Rattle.rcpsp_run.specs.declared.words.WordsFault.{WordsFault}
+use Rattle.rcpsp_run.specs.declared.words.WordsFault.TheVariants.{Undefined, Memory}
+use Rattle.rcpsp_run.specs.Table.{verb_of}
+use Rattle.rcpsp_run.specs.Parts.{parts_after}
+use Rattle.rcpsp_run.specs.Given.{Given, given_of, value_of}
+
+-- one step after another, as long as the words say something
+infixl 10 ◌>>=◌
+abbrev pub ◌>>=◌ : {A B : Type 0} → Option A → (A → Option B) → Option B
+said >>= f = option_and_then f said
+
+-- whether a name ends in these letters, whatever their case
+abbrev pub ends_in : List ℕ → List ℕ → Bool
+ends_in name ending =
+    str_eq_ignore_ascii_case (drop (length name - length ending) name) ending
+
+-- the format of an instance: by its word, or else by the ending of the file's name
+abbrev pub format_of : List ℕ → Option (List ℕ) → Option Format
+format_of file (Some word) = if bytes_eq word (codes "rcp") then Some Rcp else None
+format_of file None = if ends_in file (codes ".rcp") then Some Rcp else None
+
+-- the priority rule of a word
+abbrev pub rule_of : List ℕ → Option Rule
+rule_of word =
+    if bytes_eq word (codes "number") then Some Number
+    else if bytes_eq word (codes "lft") then Some Lft
+    else if bytes_eq word (codes "lst") then Some Lst
+    else if bytes_eq word (codes "mts") then Some Mts
+    else if bytes_eq word (codes "grpw") then Some Grpw
+    else None
+
+-- where the list comes from: a rule or a file, not both; the rule by number, where neither is given
+abbrev pub order_of : Option (List ℕ) → Option (List ℕ) → Option Order
+order_of (Some rule) (Some list) = None
+order_of (Some rule) None = option_map order.Rule (rule_of rule)
+order_of None (Some list) = Some (order.List list)
+order_of None None = Some (order.Rule Number)
+
+-- whether a name is given, and is this text
+abbrev pub is_given : Option (List ℕ) → List ℕ → Bool
+is_given (Some name) text = bytes_eq name text
+is_given None text = false
+
+-- whether names can be given together: none is empty, and at most one is `-`, standard input
+abbrev pub are_names : List (Option (List ℕ)) → Bool
+are_names names =
+    not (list_any (λ name. is_given name []) names)
+    && nat_le (count_by (λ name. is_given name (codes "-")) names) 1
+
+-- the only positional word
+abbrev pub only_word : List (List ℕ) → Option (List ℕ)
+only_word (word ∷ []) = Some word
+only_word _ = None
+
+-- the command `schedule`
+unfoldable pub schedule_of : Given → Option Command
+schedule_of given = do
+  file ← only_word given.positional
+  named ← value_of given.values (codes "format")
+  format ← format_of file named
+  rule ← value_of given.values (codes "rule")
+  list ← value_of given.values (codes "list")
+  order ← order_of rule list
+  if are_names (Some file ∷ list ∷ []) then Some (command.Schedule file format order) else None
+
+-- a command by what its words give
+abbrev pub command_of : Verb → Given → Option Command
+command_of verb.Schedule given = schedule_of given
+
+-- the options of the words
+unfoldable pub options_of : List (List ℕ) → Option Options
+options_of [] = None
+options_of (first ∷ rest) = do
+  verb ← verb_of first
+  given ← given_of (parts_after verb first rest)
+  said ← command_of verb given
+  Some (record { command = said })
+
+-- what was read is what the words say, as `view` shows it; they are undefined exactly where they
+-- say nothing, unless memory ran out
+abbrev pub Reads : {X T : Type 0} → (X → T) → Option T → Result X WordsFault → Type 0
+Reads view said (Ok read) = said ≡ Some (view read)
+Reads view said (Err Undefined) = said ≡ None
+Reads view said (Err Memory) = Unit {0}
+
+-- the same, where what was read is seen as it is
+abbrev pub IsUnderstood : {T : Type 0} → Option T → Result T WordsFault → Type 0
+IsUnderstood said result = Reads (λ read. read) said result
