@@ -8,9 +8,10 @@ use Rattle.std.proofs.lemmas.List.{length-map, get_or-map}
 use Rattle.rc_instance.specs.declared.parts.InstanceFault.{InstanceFault}
 use Rattle.rc_instance.specs.declared.parts.InstanceFault.TheVariants.{NoActivity, TooManyActivities, TooManyResources, CapacityTooLarge, SuccessorOutOfRange, TooLong}
 use Rattle.rc_instance.specs.declared.limits.TheConstants.{MAX_ACTIVITIES, MAX_RESOURCES, MAX_CAPACITY, MAX_DURATION_SUM}
-use Rattle.rc_instance.specs.Lists.{or_else, names, IsUpTo}
+use Rattle.rc_instance.specs.Lists.{names, IsUpTo}
 use Rattle.rc_instance.specs.Calendar.{AreSuccessors, IsWithinLimits}
 use Rattle.rc_instance.specs.Parts.{made, named_up_to, first_fault, large_capacity, wild_successor, wild_successor_of, long_sum}
+use Rattle.rc_instance.proofs.ListLaws.{neither}
 use Rattle.rc_instance.proofs.SetLaws.{numbers_that}
 
 -- what is no `Some` is `None`
@@ -22,11 +23,6 @@ is_none (Some x) h = absurd (h x refl)
 pub no_fault : (b : Bool) (fault : InstanceFault) (rest : Option InstanceFault) → cond b (Some fault) rest ≡ None → (b ≡ false) × (rest ≡ None)
 no_fault true fault rest e = absurd (cc)
 no_fault false fault rest e = (refl, e)
-
--- where neither of two gives a fault
-pub neither : (first second : Option InstanceFault) → or_else first second ≡ None → (first ≡ None) × (second ≡ None)
-neither None second e = (refl, e)
-neither (Some fault) second e = absurd (cc)
 
 -- no capacity is above the limit
 capacities_within : (k : ℕ) (capacities : List ℕ) → large_capacity k capacities ≡ None → All (λ c. c ≤ MAX_CAPACITY) capacities

@@ -102,7 +102,7 @@ start_at-place project order i activities once within =
     ∙ start_of-serial project order i once within
 
 -- starts that are given by number are booked by number
-bookings_from-map : (f : ℕ → ℕ) (n a : ℕ) → bookings_from a (map f (range_with_len a n))
+pub bookings_from-map : (f : ℕ → ℕ) (n a : ℕ) → bookings_from a (map f (range_with_len a n))
     ≡ map (λ (b : ℕ). let booking : Booking = record { activity = b; start = f b } in booking)
     (range_with_len a n)
 bookings_from-map f zero a = refl
@@ -142,14 +142,10 @@ usage-serial_schedule project order k p list =
     sum_by-IsPermutation (use_of project k p) (serial_bookings project order)
     (bookings_of (serial_schedule project order)) (IsPermutation-serial_schedule project order list)
 
--- its makespan is the greatest finish of what the scheme booked
-pub makespan-serial_schedule : (project : Project) (order : List ℕ) → IsFeasibleList project order
-    → makespan project (serial_schedule project order)
-    ≡ last_finish project (serial_bookings project order)
-makespan-serial_schedule project order list =
-    let xs = serial_bookings project order in
-    let ys = bookings_of (serial_schedule project order) in
-    let moved = IsPermutation-serial_schedule project order list in
+-- bookings in another order have the same last finish
+pub last_finish-IsPermutation : (project : Project) (xs ys : List Booking) → IsPermutation xs ys
+    → last_finish project xs ≡ last_finish project ys
+last_finish-IsPermutation project xs ys moved =
     let up = last_finish-le project ys (last_finish project xs)
     (All-permutation (λ b. finish project b ≤ last_finish project xs) xs ys moved
     (finish-le-last_finish project xs)) in
@@ -157,6 +153,14 @@ makespan-serial_schedule project order list =
     (All-permutation (λ b. finish project b ≤ last_finish project ys) ys xs
     (IsPermutation-sym xs ys moved) (finish-le-last_finish project ys)) in
     omega arith
+
+-- its makespan is the greatest finish of what the scheme booked
+pub makespan-serial_schedule : (project : Project) (order : List ℕ) → IsFeasibleList project order
+    → makespan project (serial_schedule project order)
+    ≡ last_finish project (serial_bookings project order)
+makespan-serial_schedule project order list =
+    sym (last_finish-IsPermutation project (serial_bookings project order)
+    (bookings_of (serial_schedule project order)) (IsPermutation-serial_schedule project order list))
 
 -- so it ends by the horizon
 pub makespan-serial_schedule-le-horizon : (project : Project) (order : List ℕ)

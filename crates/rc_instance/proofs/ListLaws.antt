@@ -1,5 +1,5 @@
 -- What the words on lists and on searches tell.
-use Rattle.std.proofs.Common.{◌≡◌, ℕ, zero, suc, ◌+◌, ◌<◌, ◌≤◌, max, Bool, List, [], ◌∷◌, ◌++◌, length, get_or, nat_eq, sym, refl, ap, ◌∙◌, subst, inl, inr, arith, ◌&&◌, ◌≢◌, true≢false}
+use Rattle.std.proofs.Common.{◌≡◌, ℕ, zero, suc, ◌+◌, ◌<◌, ◌≤◌, max, Bool, Option, None, Some, List, [], ◌∷◌, ◌++◌, length, get_or, nat_eq, sym, refl, ap, ◌∙◌, subst, inl, inr, arith, ◌&&◌, ◌≢◌, true≢false}
 use Rattle.std.specs.Bool.{Decides, IsTrue}
 use Rattle.std.specs.List.{All, Contains, list_all, range_with_len}
 use Rattle.std.proofs.lemmas.Bool.{cond_both, cases_eq}
@@ -8,7 +8,13 @@ use Rattle.std.proofs.lemmas.List.{get_or_default}
 use Rattle.std.proofs.lemmas.List.Elements.{All-head, All-tail}
 use Rattle.std.proofs.lemmas.List.FromFn.{length-range_with_len, get_or-range_with_len}
 use Rattle.std.proofs.lemmas.Map.Made.{is_member-Decides}
-use Rattle.rc_instance.specs.Lists.{greatest, names, numbers, first_from, last_below}
+use Rattle.rc_instance.specs.Lists.{or_else, greatest, names, numbers, first_from, last_below}
+
+-- where neither of two has a value
+pub neither : {X : Type 0} (first second : Option X) → or_else first second ≡ None
+    → (first ≡ None) × (second ≡ None)
+neither None second e = (refl, e)
+neither (Some x) second e = absurd cc
 
 -- the greatest of two lists after one another
 pub greatest-append : (xs ys : List ℕ) → greatest (xs ++ ys) ≡ max (greatest xs) (greatest ys)

@@ -161,14 +161,24 @@ start_of-bookings_of starts a from upto =
     let same : a ≡ 1 + (a - 1) = omega arith in
     ap (start_of (bookings_of starts)) same ∙ start_of-bookings_from starts 1 (a - 1) (omega arith)
 
+-- the bookings from an activity on are its own, and those from the next on
+pub bookings_first : (starts : List ℕ) (a : ℕ) → 1 ≤ a → a ≤ length starts
+    → bookings_from a (drop (a - 1) starts)
+    ≡ record { activity = a; start = start_at starts a } ∷ bookings_from (a + 1) (drop (a + 1 - 1) starts)
+unfolding start_at
+bookings_first starts a low high =
+    let inside : a - 1 < length starts = omega arith in
+    let next : suc (a - 1) ≡ a + 1 - 1 = omega arith in
+    let own : Booking = record { activity = a; start = get_or starts (a - 1) 0 } in
+    ap (bookings_from a) (drop-cons starts (a - 1) 0 inside)
+    ∙ ap (λ i. own ∷ bookings_from (a + 1) (drop i starts)) next
+
 -- the greatest finish from an activity on is that of the activity, or one from the next on
 pub last_finish_first : (project : Project) (starts : List ℕ) (a : ℕ) → 1 ≤ a → a ≤ length starts
     → last_finish project (bookings_from a (drop (a - 1) starts))
     ≡ max (start_at starts a + duration project a) (last_finish project (bookings_from (a + 1) (drop a starts)))
-unfolding start_at
 last_finish_first project starts a low high =
-    let inside : a - 1 < length starts = omega arith in
-    let next : suc (a - 1) ≡ a = omega arith in
-    let split : drop (a - 1) starts ≡ get_or starts (a - 1) 0 ∷ drop a starts =
-    drop-cons starts (a - 1) 0 inside ∙ ap (λ i. get_or starts (a - 1) 0 ∷ drop i starts) next in
-    ap (λ xs. last_finish project (bookings_from a xs)) split
+    let back : a + 1 - 1 ≡ a = omega arith in
+    let later = λ (i : ℕ). last_finish project (bookings_from (a + 1) (drop i starts)) in
+    ap (last_finish project) (bookings_first starts a low high)
+    ∙ ap (λ (i : ℕ). max (start_at starts a + duration project a) (later i)) back

@@ -1,5 +1,5 @@
 -- An instance of the resource-constrained project scheduling problem, as contracts see it.
-use Rattle.std.specs.Prelude.{ℕ, ◌+◌, ◌-◌, ◌*◌, ◌≤◌, ◌&&◌, Bool, true, List, [], length, map, slice_index, slice_index_or, nat_eq, nat_le, if◌then◌else◌, IsTrue}
+use Rattle.std.specs.Prelude.{◌≡◌, ℕ, ◌+◌, ◌-◌, ◌*◌, ◌<◌, ◌≤◌, ◌&&◌, Bool, true, List, [], length, map, slice_index, slice_index_or, nat_eq, nat_le, if◌then◌else◌, IsTrue}
 use Rattle.std.specs.List.{fold, sum}
 use Rattle.rc_instance.specs.declared.change.Change.{Change}
 use Rattle.rc_instance.specs.Lists.{greatest, names}
@@ -31,6 +31,11 @@ duration project a = slice_index project.durations (a - 1)
 -- how much of a resource an activity uses in each period in which it runs
 unfoldable pub demand : Project → ℕ → ℕ → ℕ
 demand project a k = slice_index project.demands ((a - 1) * resource_count project + (k - 1))
+
+-- the list has the demand of the activity for each resource, in order
+pub record AreDemands (project : Project) (a : ℕ) (demands : List ℕ) : Type 0 where
+  pub count : length demands ≡ resource_count project
+  pub each : (j : ℕ) → j < resource_count project → slice_index demands j ≡ demand project a (j + 1)
 
 -- the capacity of a resource before any change
 unfoldable pub capacity : Project → ℕ → ℕ

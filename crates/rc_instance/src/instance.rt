@@ -1,5 +1,5 @@
 ghost use Rattle.std.specs.Prelude.{◌≡◌, ℕ, ◌+◌, ◌*◌, ◌<◌, ◌≤◌, length, slice_index, slice_get, Some};
-ghost use Rattle.rc_instance.specs.Project.{Project, activity_count, resource_count, horizon, duration, demand, capacity, capacity_at, last_capacity, last_change, successors_of, IsActivity, IsResource};
+ghost use Rattle.rc_instance.specs.Project.{Project, activity_count, resource_count, horizon, duration, demand, capacity, capacity_at, last_capacity, last_change, successors_of, IsActivity, IsResource, AreDemands};
 ghost use Rattle.rc_instance.specs.Calendar.{IsWithinLimits, IsCalendar, AreSuccessors};
 ghost use Rattle.rc_instance.specs.declared.limits.TheConstants.{MAX_CAPACITY, MAX_DURATION_SUM, MAX_CHANGE_PERIOD};
 
@@ -130,6 +130,17 @@ impl Instance {
         ensures { result ≡ demand self.now activity resource }
     {
         self.demands[(activity as usize - 1) * self.capacities.len() + (resource as usize - 1)]
+    }
+
+    /// What an activity uses of each resource in each period in which it runs, in order of resource.
+    #[tactic(auto, unfolding(crate::specs::Project::demand))]
+    pub fn demands(&self, activity: u32) -> &[u32]
+        requires { IsActivity self.now activity }
+        ensures demands { AreDemands self.now activity result.now }
+        ensures limits { IsWithinLimits self.now }
+    {
+        let first = (activity as usize - 1) * self.capacities.len();
+        &self.demands[first..first + self.capacities.len()]
     }
 
     /// The direct successors of an activity, in rising order.
