@@ -1,16 +1,11 @@
 -- The kinds of faults that the grammar has.
-use Rattle.std.proofs.Common.{◌≡◌, ◌⊎◌, inl, inr, ℕ, ◌+◌, ◌||◌, nat_eq, nat_lt, List, [], ◌∷◌, length, Ok, Err, subst, sym, ap}
+use Rattle.std.proofs.Common.{◌≡◌, ◌⊎◌, inl, inr, ℕ, ◌+◌, List, [], ◌∷◌, length, Ok, Err, subst, sym, ap}
 use Rattle.std.specs.List.{sum_by}
-use Rattle.rc_instance.specs.declared.limits.TheConstants.{MAX_ACTIVITIES}
-use Rattle.rc_instance.specs.declared.parts.InstanceFault.TheVariants.{NoActivity, TooManyActivities, SuccessorOutOfRange}
-use Rattle.rc_edge.specs.declared.text_fault.TextKind.TheVariants.{Instance}
-use Rattle.rc_edge.specs.declared.due.Number.{Number}
 use Rattle.rc_edge.specs.declared.text_fault.TextFault.{TextFault}
 use Rattle.rc_edge.specs.declared.text_fault.TextKind.{TextKind}
 use Rattle.rc_edge.specs.Tokens.{Token, tokens_of}
 use Rattle.rc_edge.specs.Grammar.{number_due, out_of_memory}
-use Rattle.rc_edge.specs.Entries as entries
-use Rattle.rc_edge.proofs.FaultLaws.{EachFault, EachFault-ok, EachFault-err, EachFault-bind, EachFault-refuse_if, EachFault-more, EachFault-number_due}
+use Rattle.rc_edge.proofs.FaultLaws.{EachFault, EachFault-ok, EachFault-err, EachFault-bind, EachFault-more, EachFault-number_due, AllowsLimits, EachFault-activity_count, EachFault-resource_count, EachFault-capacity, EachFault-duration, EachFault-successor}
 use Rattle.patterson_read.specs.declared.number.Head.{Head}
 use Rattle.patterson_read.specs.Rcp.{head, capacity, next_capacity, demand, duration, successor, activity, next_activity, nothing, text_due, read_instance, project_of, IsKind}
 
@@ -21,46 +16,22 @@ IsFault fault = IsKind fault.kind
 number : (size : ℕ) (tokens : List Token) → EachFault IsFault (number_due size tokens)
 number size tokens = EachFault-number_due IsFault size tokens (λ at. tt) (λ at. tt) (λ at. tt)
 
-activity_count_kinds : (n : Number) → EachFault IsFault (entries.activity_count n)
-unfolding entries.activity_count
-activity_count_kinds n =
-    EachFault-bind IsFault _ _ (EachFault-refuse_if IsFault (nat_eq n.value 0) (Instance NoActivity) n.at tt) (λ none.
-    EachFault-bind IsFault _ _
-    (EachFault-refuse_if IsFault (nat_lt MAX_ACTIVITIES n.value) (Instance (TooManyActivities n.value)) n.at tt)
-    (λ many. EachFault-ok IsFault n.value))
-
-resource_count_kinds : (n : Number) → EachFault IsFault (entries.resource_count n)
-unfolding entries.resource_count
-resource_count_kinds n = EachFault-bind IsFault _ _ (EachFault-refuse_if IsFault _ _ n.at tt) (λ many. EachFault-ok IsFault n.value)
-
-capacity_kinds : (resource : ℕ) (n : Number) → EachFault IsFault (entries.capacity resource n)
-unfolding entries.capacity
-capacity_kinds resource n = EachFault-bind IsFault _ _ (EachFault-refuse_if IsFault _ _ n.at tt) (λ large. EachFault-ok IsFault n.value)
-
-duration_kinds : (before : ℕ) (n : Number) → EachFault IsFault (entries.duration before n)
-unfolding entries.duration
-duration_kinds before n = EachFault-bind IsFault _ _ (EachFault-refuse_if IsFault _ _ n.at tt) (λ long. EachFault-ok IsFault n.value)
-
-successor_kinds : (count activity : ℕ) (n : Number) → EachFault IsFault (entries.successor count activity n)
-unfolding entries.successor
-successor_kinds count activity n =
-    EachFault-bind IsFault _ _
-    (EachFault-refuse_if IsFault (nat_eq n.value 0 || nat_lt count n.value) (Instance (SuccessorOutOfRange activity n.value)) n.at tt)
-    (λ wild. EachFault-ok IsFault n.value)
+limits : AllowsLimits IsFault
+limits fault at is = is
 
 head_faults : (size : ℕ) (tokens : List Token) → EachFault IsFault (head size tokens)
 unfolding head
 head_faults size tokens =
     EachFault-bind IsFault _ _ (number size tokens) (λ first.
-    EachFault-bind IsFault _ _ (activity_count_kinds first.0) (λ activities.
+    EachFault-bind IsFault _ _ (EachFault-activity_count IsFault limits first.0) (λ activities.
     EachFault-bind IsFault _ _ (number size first.1) (λ second.
-    EachFault-bind IsFault _ _ (resource_count_kinds second.0) (λ resources. EachFault-ok IsFault _))))
+    EachFault-bind IsFault _ _ (EachFault-resource_count IsFault limits second.0) (λ resources. EachFault-ok IsFault _))))
 
 capacity_faults : (size resource : ℕ) (tokens : List Token) → EachFault IsFault (capacity size resource tokens)
 unfolding capacity
 capacity_faults size resource tokens =
     EachFault-bind IsFault _ _ (number size tokens) (λ n.
-    EachFault-bind IsFault _ _ (capacity_kinds resource n.0) (λ value. EachFault-ok IsFault _))
+    EachFault-bind IsFault _ _ (EachFault-capacity IsFault limits resource n.0) (λ value. EachFault-ok IsFault _))
 
 demand_faults : (size : ℕ) (tokens : List Token) → EachFault IsFault (demand size tokens)
 unfolding demand
@@ -70,13 +41,13 @@ duration_faults : (size before : ℕ) (tokens : List Token) → EachFault IsFaul
 unfolding duration
 duration_faults size before tokens =
     EachFault-bind IsFault _ _ (number size tokens) (λ n.
-    EachFault-bind IsFault _ _ (duration_kinds before n.0) (λ value. EachFault-ok IsFault _))
+    EachFault-bind IsFault _ _ (EachFault-duration IsFault limits before n.0) (λ value. EachFault-ok IsFault _))
 
 successor_faults : (size : ℕ) (head : Head) (activity : ℕ) (tokens : List Token) → EachFault IsFault (successor size head activity tokens)
 unfolding successor
 successor_faults size head activity tokens =
     EachFault-bind IsFault _ _ (number size tokens) (λ n.
-    EachFault-bind IsFault _ _ (successor_kinds head.activities activity n.0) (λ value. EachFault-ok IsFault _))
+    EachFault-bind IsFault _ _ (EachFault-successor IsFault limits head.activities activity n.0) (λ value. EachFault-ok IsFault _))
 
 activity_faults : (size : ℕ) (head : Head) (place before : ℕ) (tokens : List Token) → EachFault IsFault (activity size head place before tokens)
 unfolding activity

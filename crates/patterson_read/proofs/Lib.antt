@@ -4,3 +4,5 @@ pub mod ListLaws
 pub mod PartsLaws
 pub mod Rows
 pub mod TextLaws
+pub mod WriteLaws
+pub mod ReadBackLaws

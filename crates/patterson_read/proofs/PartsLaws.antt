@@ -1,19 +1,16 @@
 -- The parts that hold an accepted text: they pass no limit, and make the text's instance.
-use Rattle.std.proofs.Common.{◌≡◌, ℕ, suc, ◌*◌, List, [], ◌∷◌, length, map, Option, None, Ok, Err, ◌⊎◌, inl, inr, refl, ap, sym, ◌∙◌, All, arith}
-use Rattle.std.specs.List.{flat_map, sum}
-use Rattle.std.proofs.lemmas.List.{length-map, length-append}
+use Rattle.std.proofs.Common.{◌≡◌, ℕ, ◌*◌, List, length, map, None, Ok, Err, ◌⊎◌, inl, inr, refl, ap, sym, ◌∙◌, All, arith}
+use Rattle.std.proofs.lemmas.List.{length-map}
 use Rattle.std.proofs.lemmas.List.Elements.{All-map}
 use Rattle.std.proofs.lemmas.List.Sums.{sum-map}
 use Rattle.rc_instance.specs.Lists.{IsUpTo}
-use Rattle.rc_instance.specs.Parts.{made_of, first_fault_of, Refuses}
+use Rattle.rc_instance.specs.Parts.{made_of, first_fault_of}
 use Rattle.rc_instance.specs.declared.parts.Parts.{Parts}
-use Rattle.rc_instance.specs.declared.parts.InstanceFault.{InstanceFault}
-use Rattle.rc_instance.specs.declared.parts.InstanceFault.TheVariants.{NoActivity, TooManyActivities, TooManyResources, CapacityTooLarge, SuccessorOutOfRange, TooLong, Memory}
 use Rattle.rc_edge.specs.declared.text_fault.TextFault.{TextFault}
 use Rattle.rc_edge.specs.Tokens.{tokens_after}
 use Rattle.rc_edge.specs.Grammar.{out_of_memory}
 use Rattle.rc_edge.proofs.TokenLaws.{tokens_after_start}
-use Rattle.rc_edge.proofs.PartsLaws.{no_fault}
+use Rattle.rc_edge.proofs.PartsLaws.{no_fault, length-flat_map}
 use Rattle.patterson_read.specs.Rcp.{Activity, Text, text_due, project_of, read_instance}
 use Rattle.patterson_read.specs.View.{Holds}
 use Rattle.patterson_read.proofs.TextLaws.{IsText}
@@ -28,19 +25,10 @@ parts_fit text parts holds is =
     (no_fault text.capacities (map (λ a. a.duration) text.activities) (map (λ a. a.successors) text.activities)
     (omega (arith, n, is.some)) (omega (arith, n, is.few)) is.resources is.capacities (rw n within) (rw sum-map is.short))
 
--- so many demands in all
-demands-length : (k : ℕ) (activities : List Activity) → All (λ a. length a.demands ≡ k) activities
-    → length (flat_map (λ a. a.demands) activities) ≡ length activities * k
-demands-length k [] all = omega arith
-demands-length k (a ∷ rest) all =
-    let one : length a.demands ≡ k = all 0 a (omega arith) in
-    let others = demands-length k rest (λ i d inside. all (suc i) d (omega arith)) in
-    omega (arith, one, others, length-append a.demands (flat_map (λ (a : Activity). a.demands) rest))
-
 pub demands_fit : (text : Text) (parts : Parts) → Holds text parts → IsText text
     → length parts.demands.items ≡ length parts.durations.items * length parts.capacities.items
 demands_fit text parts holds is =
-    rw (holds.capacities, holds.durations, holds.demands, length-map text.activities (λ (a : Activity). a.duration)) (demands-length (length text.capacities) text.activities is.demands)
+    rw (holds.capacities, holds.durations, holds.demands, length-map text.activities (λ (a : Activity). a.duration)) (length-flat_map (λ (a : Activity). a.demands) (length text.capacities) text.activities is.demands)
 
 pub successors_fit : (text : Text) (parts : Parts) → Holds text parts → length parts.successors.items ≡ length parts.durations.items
 successors_fit text parts holds =
@@ -52,16 +40,6 @@ successors_fit text parts holds =
 -- the parts that hold a text make its instance
 pub parts_made : (text : Text) (parts : Parts) → Holds text parts → made_of parts ≡ project_of text
 parts_made text parts holds = rw (holds.capacities, holds.durations, holds.demands, holds.successors) refl
-
--- parts that pass no limit are refused for want of memory alone
-pub only_memory : (first : Option InstanceFault) (fault : InstanceFault) → first ≡ None → Refuses first fault → fault ≡ Memory
-only_memory first NoActivity none refused = absurd cc
-only_memory first (TooManyActivities n) none refused = absurd cc
-only_memory first (TooManyResources n) none refused = absurd cc
-only_memory first (CapacityTooLarge k c) none refused = absurd cc
-only_memory first (SuccessorOutOfRange a b) none refused = absurd cc
-only_memory first (TooLong sum) none refused = absurd cc
-only_memory first Memory none refused = refl
 
 -- the instance of the bytes, where their tokens were read from the start
 pub text_accepted : (bytes : List ℕ) (text : Text) → text_due (length bytes) (tokens_after bytes 0) ≡ Ok text → read_instance bytes ≡ Ok (project_of text)

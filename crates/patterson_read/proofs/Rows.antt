@@ -1,6 +1,8 @@
 -- Worked rows: what the definition says of small texts.
 use Rattle.std.proofs.Common.{◌≡◌, ℕ, List, [], ◌∷◌, ◌++◌, Ok, Err, codes, refl}
 use Rattle.std.specs.Prelude.{Result}
+use Rattle.std.specs.Fmt.{digits}
+use Rattle.rc_instance.specs.Project as project
 use Rattle.rc_instance.specs.Project.{Project}
 use Rattle.rc_instance.specs.Parts.{made}
 use Rattle.rc_instance.specs.declared.parts.InstanceFault.TheVariants.{NoActivity, TooLong, SuccessorOutOfRange}
@@ -11,6 +13,7 @@ use Rattle.rc_edge.specs.Tokens.{is_white, tokens_from}
 use Rattle.rc_edge.specs.Grammar.{number_due, more}
 use Rattle.rc_edge.specs.Entries as entries
 use Rattle.patterson_read.specs.Rcp.{head, capacity, demand, duration, successor, activity, text_due, read_instance}
+use Rattle.patterson_read.specs.Written.{line, activity_numbers, rcp_lines, rcp_text}
 use Rattle.patterson_read.specs.ListFile.{numbers_in, read_list}
 
 abbrev refused : TextKind → ℕ → Result Project TextFault
@@ -90,3 +93,12 @@ list = refl
 not_in_a_list : read_list (codes "1 x") ≡ Err (record { kind = NotANumber; at = 2 })
 unfolding is_white tokens_from numbers_in read_list
 not_in_a_list = refl
+
+six_text : rcp_text (made (2 ∷ []) (0 ∷ 3 ∷ 2 ∷ 2 ∷ 1 ∷ 0 ∷ []) (0 ∷ 2 ∷ 1 ∷ 1 ∷ 1 ∷ 0 ∷ []) ((4 ∷ 2 ∷ 3 ∷ 2 ∷ []) ∷ (5 ∷ []) ∷ (6 ∷ []) ∷ (6 ∷ []) ∷ (6 ∷ []) ∷ [] ∷ [])) ≡ six
+unfolding line activity_numbers rcp_lines rcp_text digits project.duration project.demand project.successors_of made six
+six_text = refl
+
+-- without resources the second line is empty
+one_text : rcp_text (made [] (5 ∷ []) [] ([] ∷ [])) ≡ codes "1 0\n\n5 0\n"
+unfolding line activity_numbers rcp_lines rcp_text digits project.duration project.demand project.successors_of made
+one_text = refl

@@ -1,3 +1,4 @@
 pub mod ListFile
 pub mod Rcp
 pub mod View
+pub mod Written

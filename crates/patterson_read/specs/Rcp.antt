@@ -6,8 +6,6 @@ use Rattle.std.specs.Prelude.{ℕ, ◌+◌, List, [], ◌∷◌, length, map, Re
 use Rattle.std.specs.List.{flat_map, sum_by}
 use Rattle.rc_instance.specs.Project.{Project}
 use Rattle.rc_instance.specs.Parts.{made}
-use Rattle.rc_instance.specs.declared.parts.InstanceFault.{InstanceFault}
-use Rattle.rc_instance.specs.declared.parts.InstanceFault.TheVariants.{Memory as OutOfMemory}
 use Rattle.rc_edge.specs.declared.text_fault.TextFault.{TextFault}
 use Rattle.rc_edge.specs.declared.text_fault.TextKind.{TextKind}
 use Rattle.rc_edge.specs.declared.text_fault.TextKind.TheVariants.{NotANumber, NumberTooLarge, Trailing, Ended, Instance, Memory}
@@ -104,17 +102,12 @@ read_instance bytes = do
   text ← text_due (length bytes) (tokens_of bytes)
   Ok (project_of text)
 
--- a limit that a number can pass
-abbrev pub IsLimit : InstanceFault → Type 0
-IsLimit OutOfMemory = ⊥
-IsLimit fault = Unit {0}
-
 -- the kinds of the faults of such texts, and want of memory
 abbrev pub IsKind : TextKind → Type 0
 IsKind NotANumber = Unit {0}
 IsKind NumberTooLarge = Unit {0}
 IsKind Trailing = Unit {0}
 IsKind Ended = Unit {0}
-IsKind (Instance fault) = IsLimit fault
+IsKind (Instance fault) = entries.IsLimit fault
 IsKind Memory = Unit {0}
 IsKind kind = ⊥

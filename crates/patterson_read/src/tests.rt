@@ -1,4 +1,4 @@
-use super::{read_list, read_rcp};
+use super::{read_list, read_rcp, write_rcp};
 use rc_edge::{TextFault, TextKind};
 use rc_instance::limits::MAX_FILE_BYTES;
 use rc_instance::{Instance, InstanceFault};
@@ -156,6 +156,25 @@ fn the_first_fault_of_a_list_is_shown(rt: HostRuntime) -> Result<(), Fail> {
     ] {
         let list = list_of(rt.alloc(), text).ok_or("the text is short")?;
         assert_eq!(rt; list.err(), Some(TextFault { kind, at }));
+    }
+    Ok(())
+}
+
+#[test]
+fn instances_are_written(rt: HostRuntime) -> Result<(), Fail> {
+    for (text, written) in [
+        (SIX, SIX),
+        (b"1 0 5 0", b"1 0\n\n5 0\n"),
+        (
+            b"2 2 1 0 007 4294967295 1 4 2 1 2 1 0 0 0 0",
+            b"2 2\n1 0\n7 4294967295 1 2 1 2\n0 0 0 0\n",
+        ),
+    ] {
+        let instance = instance_of(rt.alloc(), text).ok_or("the text is an instance")?;
+        let again = write_rcp(rt.alloc(), &instance)
+            .ok()
+            .ok_or("there is memory")?;
+        assert_eq!(rt; &again[..], written);
     }
     Ok(())
 }

@@ -2,15 +2,14 @@
 use Rattle.std.proofs.Common.{◌≡◌, ◌⊎◌, inl, inr, ℕ, zero, suc, ◌-◌, ◌+◌, ◌≤◌, ◌<◌, List, [], ◌∷◌, ◌++◌, length, Result, Ok, Err, refl, sym, subst, ◌∙◌, arith}
 use Rattle.std.proofs.lemmas.List.{length_push}
 use Rattle.rc_edge.specs.declared.text_fault.TextFault.{TextFault}
-use Rattle.rc_edge.specs.Tokens.{Token}
 use Rattle.rc_edge.specs.Grammar.{◌>>=◌, more, out_of_memory}
 
--- a reader of one thing, which sees those before it
-abbrev pub Reader : Type 0 → Type 0
-Reader X = List X → List Token → Result (X × List Token) TextFault
+-- a reader of one thing from what is left of a text, which sees those before it
+abbrev pub Reader : Type 0 → Type 0 → Type 0
+Reader Left X = List X → Left → Result (X × Left) TextFault
 
 -- one thing was read, and the loop goes on
-pub goes_on : {X : Type 0} (one : Reader X) (count i : ℕ) (found : List X) (tokens : List Token) (x : X) (rest : List Token) (total : Result (List X × List Token) TextFault)
+pub goes_on : {X Left : Type 0} (one : Reader Left X) (count i : ℕ) (found : List X) (tokens : Left) (x : X) (rest : Left) (total : Result (List X × Left) TextFault)
     → i < count → one found tokens ≡ Ok (x, rest) → more one (count - i) found tokens ≡ total
     → more one (count - (i + 1)) (found ++ x ∷ []) rest ≡ total
 unfolding more
@@ -20,7 +19,7 @@ goes_on one count i found tokens x rest total left read so_far =
     sym step ∙ so_far
 
 -- one thing was refused, and so are all
-pub fails : {X : Type 0} (one : Reader X) (count i : ℕ) (found : List X) (tokens : List Token) (fault : TextFault) (total : Result (List X × List Token) TextFault)
+pub fails : {X Left : Type 0} (one : Reader Left X) (count i : ℕ) (found : List X) (tokens : Left) (fault : TextFault) (total : Result (List X × Left) TextFault)
     → i < count → more one (count - i) found tokens ≡ total → one found tokens ≡ Err fault → total ≡ Err fault
 unfolding more
 fails one count i found tokens fault total left so_far refused =
@@ -29,7 +28,7 @@ fails one count i found tokens fault total left so_far refused =
     sym so_far ∙ step
 
 -- all things were read
-pub ends : {X : Type 0} (one : Reader X) (count i : ℕ) (found : List X) (tokens : List Token) (total : Result (List X × List Token) TextFault)
+pub ends : {X Left : Type 0} (one : Reader Left X) (count i : ℕ) (found : List X) (tokens : Left) (total : Result (List X × Left) TextFault)
     → count ≤ i → more one (count - i) found tokens ≡ total → total ≡ Ok (found, tokens)
 unfolding more
 ends one count i found tokens total end so_far =
@@ -38,7 +37,7 @@ ends one count i found tokens total end so_far =
     sym so_far ∙ step
 
 -- what refuses a step of a loop refuses the loop, as far as memory lasts
-pub refused-more : {X : Type 0} (one : Reader X) (count i : ℕ) (found : List X) (tokens : List Token) (fault : TextFault) (total : Result (List X × List Token) TextFault)
+pub refused-more : {X Left : Type 0} (one : Reader Left X) (count i : ℕ) (found : List X) (tokens : Left) (fault : TextFault) (total : Result (List X × Left) TextFault)
     → i < count → more one (count - i) found tokens ≡ total → (one found tokens ≡ Err fault) ⊎ (fault ≡ out_of_memory)
     → (total ≡ Err fault) ⊎ (fault ≡ out_of_memory)
 refused-more one count i found tokens fault total left so_far (inl refused) = inl (fails one count i found tokens fault total left so_far refused)
@@ -57,23 +56,23 @@ pub ok_is : {A : Type 0} (x y : A) → done x ≡ done y → x ≡ y
 ok_is x y e = cc
 
 -- a property of what was read that each thing keeps holds of all
-pub more_keeps : {X : Type 0} (P : List X → Type 0) (one : Reader X)
-    → ((found : List X) (tokens : List Token) (x : X) (rest : List Token) → P found → one found tokens ≡ Ok (x, rest) → P (found ++ x ∷ []))
-    → (count : ℕ) (found : List X) (tokens : List Token) (all : List X × List Token) → P found → more one count found tokens ≡ Ok all → P all.0
+pub more_keeps : {X Left : Type 0} (P : List X → Type 0) (one : Reader Left X)
+    → ((found : List X) (tokens : Left) (x : X) (rest : Left) → P found → one found tokens ≡ Ok (x, rest) → P (found ++ x ∷ []))
+    → (count : ℕ) (found : List X) (tokens : Left) (all : List X × Left) → P found → more one count found tokens ≡ Ok all → P all.0
 unfolding more
-more_keeps {X = X} P one keeps zero found tokens all holds read =
-    subst (λ (x : List X × List Token). P x.0) (ok_is (found, tokens) all read) holds
-more_keeps {X = X} P one keeps (suc count) found tokens all holds read =
+more_keeps {X = X} {Left = Left} P one keeps zero found tokens all holds read =
+    subst (λ (x : List X × Left). P x.0) (ok_is (found, tokens) all read) holds
+more_keeps {X = X} {Left = Left} P one keeps (suc count) found tokens all holds read =
     let first = bind_ok (one found tokens) (λ next. more one count (found ++ next.0 ∷ []) next.1) all read in
     more_keeps P one keeps count (found ++ first.0.0 ∷ []) first.0.1 all (keeps found tokens first.0.0 first.0.1 holds first.1) first.2
 
 -- so many things were read
-pub more-length : {X : Type 0} (one : Reader X) (count : ℕ) (found : List X) (tokens : List Token) (all : List X × List Token)
+pub more-length : {X Left : Type 0} (one : Reader Left X) (count : ℕ) (found : List X) (tokens : Left) (all : List X × Left)
     → more one count found tokens ≡ Ok all → length all.0 ≡ length found + count
 unfolding more
-more-length {X = X} one zero found tokens all read =
-    subst (λ (x : List X × List Token). length x.0 ≡ length found + 0) (ok_is (found, tokens) all read) (omega arith)
-more-length {X = X} one (suc count) found tokens all read =
+more-length {X = X} {Left = Left} one zero found tokens all read =
+    subst (λ (x : List X × Left). length x.0 ≡ length found + 0) (ok_is (found, tokens) all read) (omega arith)
+more-length {X = X} {Left = Left} one (suc count) found tokens all read =
     let first = bind_ok (one found tokens) (λ next. more one count (found ++ next.0 ∷ []) next.1) all read in
     let others = more-length one count (found ++ first.0.0 ∷ []) first.0.1 all first.2 in
     omega (arith, others, length_push found first.0.0)

@@ -6,3 +6,8 @@ pub mod NumberLaws
 pub mod PartsLaws
 pub mod TokenLaws
 pub mod FetchLaws
+pub mod WrittenLaws
+pub mod ReadBackLaws
+pub mod RemadeLaws
+pub mod PlaceLaws
+pub mod NumberedLaws

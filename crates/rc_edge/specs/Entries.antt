@@ -1,11 +1,17 @@
 -- What each number of an instance may be, whatever the format: a limit is tested at the number that passes it.
 use Rattle.std.specs.Prelude.{ℕ, ◌+◌, ◌||◌, ◌==◌, nat_lt, Result, Ok}
 use Rattle.rc_instance.specs.declared.limits.TheConstants.{MAX_ACTIVITIES, MAX_RESOURCES, MAX_CAPACITY, MAX_DURATION_SUM}
-use Rattle.rc_instance.specs.declared.parts.InstanceFault.TheVariants.{NoActivity, TooManyActivities, TooManyResources, CapacityTooLarge, SuccessorOutOfRange, TooLong}
+use Rattle.rc_instance.specs.declared.parts.InstanceFault.{InstanceFault}
+use Rattle.rc_instance.specs.declared.parts.InstanceFault.TheVariants.{NoActivity, TooManyActivities, TooManyResources, CapacityTooLarge, SuccessorOutOfRange, TooLong, Memory}
 use Rattle.rc_edge.specs.declared.due.Number.{Number}
 use Rattle.rc_edge.specs.declared.text_fault.TextFault.{TextFault}
 use Rattle.rc_edge.specs.declared.text_fault.TextKind.TheVariants.{Instance}
 use Rattle.rc_edge.specs.Grammar.{◌>>=◌, refuse_if}
+
+-- a limit that a number can pass
+abbrev pub IsLimit : InstanceFault → Type 0
+IsLimit Memory = ⊥
+IsLimit fault = Unit {0}
 
 -- how many activities there are
 unfoldable pub activity_count : Number → Result ℕ TextFault

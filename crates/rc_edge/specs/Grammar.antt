@@ -32,11 +32,12 @@ unfoldable pub number_due : ℕ → List Token → Result (Number × List Token)
 number_due size [] = Err (record { kind = Ended; at = size })
 number_due size (token ∷ rest) = number_in token rest (number_of token.text)
 
--- so many things more after those that were read; `one` reads one, and may look at those before it
-unfoldable pub more : {X : Type 0} → (List X → List Token → Result (X × List Token) TextFault) → ℕ → List X → List Token → Result (List X × List Token) TextFault
-more one zero found tokens = Ok (found, tokens)
-more one (suc n) found tokens = do
-  next ← one found tokens
+-- so many things more after those that were read; `one` reads one from what is left of the text,
+-- and may look at those before it
+unfoldable pub more : {X Left : Type 0} → (List X → Left → Result (X × Left) TextFault) → ℕ → List X → Left → Result (List X × Left) TextFault
+more one zero found left = Ok (found, left)
+more one (suc n) found left = do
+  next ← one found left
   more one n (found ++ next.0 ∷ []) next.1
 
 -- what a call gave is what the grammar says

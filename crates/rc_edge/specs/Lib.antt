@@ -9,3 +9,4 @@ pub mod Numbers
 pub mod TextFault
 pub mod Grammar
 pub mod Entries
+pub mod Written

@@ -55,4 +55,4 @@ pub use real_files::RealFiles;
 pub use real_sinks::{RealNote, RealOut};
 pub use sink::{Sink, SinkFault, put_all};
 pub use text_fault::{Item, TextFault, TextKind};
-pub use token::next_token;
+pub use token::{is_white, next_token};

@@ -37,8 +37,9 @@ fn past_begun(bytes: &[u8], from: usize) -> usize
     }
 }
 
+/// Whether a byte is white space: a space, tab, line feed, form feed or carriage return, or 26.
 #[tactic(auto, unfolding(crate::specs::Tokens::is_white))]
-fn is_white(byte: u8) -> bool
+pub fn is_white(byte: u8) -> bool
     ensures { result ≡ is_white byte }
 {
     matches!(byte, b' ' | b'\t' | b'\n' | b'\x0c' | b'\r' | 26)

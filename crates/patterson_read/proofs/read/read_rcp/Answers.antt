@@ -1,9 +1,10 @@
 use Rattle.std.proofs.Common.{◌≡◌, Ok, ap, sym, ◌∙◌}
 use Rattle.std.proofs.lemmas.Result.{err_from_is_err_and}
 use Rattle.rc_instance.specs.declared.parts.InstanceFault.TheVariants.{Memory}
+use Rattle.rc_edge.proofs.PartsLaws.{only_memory}
 use Rattle.patterson_read.proofs.KindLaws.{kind_is}
 use Rattle.patterson_read.proofs.TextLaws.{text_is}
-use Rattle.patterson_read.proofs.PartsLaws.{parts_fit, demands_fit, successors_fit, parts_made, only_memory, text_accepted, text_refused}
+use Rattle.patterson_read.proofs.PartsLaws.{parts_fit, demands_fit, successors_fit, parts_made, text_accepted, text_refused}
 use Rattle.patterson_read.proofs.read.read_rcp.Goals as goal
 use Rattle.patterson_read.proofs.read.read_rcp.Goals.{in-Memory, in_default}
 
