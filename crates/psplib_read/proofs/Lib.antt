@@ -1,0 +1,17 @@
+pub mod CursorLaws
+pub mod HeadLaws
+pub mod KeyLaws
+pub mod KindLaws
+pub mod LineLaws
+pub mod PartsLaws
+pub mod PreambleLaws
+pub mod RequestLaws
+pub mod Rows
+pub mod SectionLaws
+pub mod TextLaws
+pub mod WrittenLines
+pub mod WrittenPreamble
+pub mod WrittenRows
+pub mod WrittenSections
+pub mod WrittenText
+pub mod WrittenWords

@@ -1,0 +1,6 @@
+pub mod Lines
+pub mod Left
+pub mod Preamble
+pub mod Sm
+pub mod View
+pub mod Written

@@ -1,0 +1,60 @@
+ghost use Rattle.std.specs.Prelude.{[], map};
+ghost use Rattle.rc_edge.specs.Grammar.{GivesOrMemory, more};
+ghost use Rattle.psplib_read.specs.Sm.{successor, successors, next_successors};
+
+use crate::cursor::Cursor;
+use crate::number::{job_due, number_due, read_successor};
+use crate::preamble::Head;
+use rc_edge::TextFault;
+use std::alloc::Global;
+
+/// The successors of each job, in order.
+pub fn read_all_successors(
+    alloc: Global,
+    cursor: &mut Cursor,
+    head: Head,
+) -> Result<Vec<Vec<u32>>, TextFault>
+    ensures { GivesOrMemory (λ lists. (map (λ list. list.items) lists.items, cursor.new)) result
+        (more (next_successors head) head.jobs [] cursor.old) }
+{
+    let mut lists = Vec::new(alloc);
+    for index in 0..head.jobs {
+        let list = read_successors(alloc, cursor, head, index + 1)?;
+        lists.push(list)?;
+    }
+    Ok(lists)
+}
+
+/// The successors of a job.
+#[tactic(auto, unfolding(crate::specs::Sm::successors))]
+fn read_successors(
+    alloc: Global,
+    cursor: &mut Cursor,
+    head: Head,
+    job: u32,
+) -> Result<Vec<u32>, TextFault>
+    ensures { GivesOrMemory (λ list. (list.items, cursor.new)) result (successors head job cursor.old) }
+{
+    job_due(cursor, job)?;
+    let count = number_due(cursor)?;
+    read_list(alloc, cursor, head, job, count.value)
+}
+
+/// So many successors of a job.
+fn read_list(
+    alloc: Global,
+    cursor: &mut Cursor,
+    head: Head,
+    job: u32,
+    count: u32,
+) -> Result<Vec<u32>, TextFault>
+    ensures { GivesOrMemory (λ list. (list.items, cursor.new)) result
+        (more (λ _. successor head job) count [] cursor.old) }
+{
+    let mut list = Vec::new(alloc);
+    for _ in 0..count {
+        let successor = read_successor(cursor, head, job)?;
+        list.push(successor)?;
+    }
+    Ok(list)
+}
