@@ -1,0 +1,11 @@
+pub mod ChainLaws
+pub mod RowLaws
+pub mod SearchLaws
+pub mod JournalLaws
+pub mod ShownLaws
+pub mod SteadyLaws
+pub mod FitLaws
+pub mod StateLaws
+pub mod PlaceLaws
+pub mod CalendarLaws
+pub mod WorkedRows

@@ -1,0 +1,18 @@
+use Rattle.std.proofs.Common.{◌≡◌, ◌-◌, ◌<◌, ◌≤◌, length, get_or}
+use Rattle.event_line.specs.Rows.{IsTaken}
+use Rattle.event_line.proofs.axis.Axis.take.Given as goal
+
+-- taken at each node from the first one up to this one
+abbrev pub invariant-loop-self : goal.invariant-loop-self
+invariant-loop-self l =
+    let periods = l.self.chain.periods in
+    (l.self.chain ≡ l.initial.self.chain) × (l.self.width ≡ l.initial.self.width)
+    × (l.node < length periods)
+    × (get_or periods l.first 0 ≤ get_or periods l.node 0)
+    × (get_or periods l.node 0 ≤ get_or periods l.end 0)
+    × IsTaken periods l.initial.self.free.items l.self.free.items l.demands
+    (get_or periods l.first 0) (get_or periods l.node 0)
+
+abbrev pub decreases-loop-self : goal.decreases-loop-self
+decreases-loop-self l =
+    get_or l.self.chain.periods l.end 0 - get_or l.self.chain.periods l.node 0
