@@ -1,53 +1,9 @@
--- The capacities after the first changes of a calendar, and how a change is written into a table.
-use Rattle.std.proofs.Common.{◌≡◌, ◌≢◌, ℕ, ◌+◌, ◌-◌, ◌*◌, ◌<◌, ◌≤◌, ◌&&◌, List, length, take, set, get_or, nat_eq, nat_le, nat_lt, if◌then◌else◌, Some, sym, ap, ◌∙◌, subst, inl, inr, arith}
-use Rattle.std.specs.List.{fold, slice_get}
+-- How a change of a calendar is written into a table.
+use Rattle.std.proofs.Common.{◌≡◌, ◌≢◌, ℕ, ◌+◌, ◌-◌, ◌*◌, ◌<◌, ◌≤◌, ◌&&◌, List, length, set, get_or, nat_eq, nat_le, nat_lt, if◌then◌else◌, sym, ap, ◌∙◌, subst, inl, inr, arith}
 use Rattle.std.proofs.lemmas.Bool.{cases_eq}
 use Rattle.std.proofs.lemmas.Bool.Decides.{nat_tests}
-use Rattle.std.proofs.lemmas.List.{get_or-set_same, get_or-set_other, take_all}
-use Rattle.std.proofs.lemmas.List.Sums.{fold_more}
+use Rattle.std.proofs.lemmas.List.{get_or-set_same, get_or-set_other}
 use Rattle.std.proofs.lemmas.Nat.{same_from_place, mul-add-lt}
-use Rattle.std.proofs.lemmas.Option.{get_or_from_slice_get, slice_get_within}
-use Rattle.rc_instance.specs.declared.change.Change.{Change}
-use Rattle.rc_instance.specs.Project.{Project, capacity, capacity_at}
-use Rattle.rc_instance.specs.Calendar.{IsCalendar}
-
--- the capacity of a resource in a period after a change
-abbrev pub changed : ℕ → ℕ → ℕ → Change → ℕ
-changed k p now change =
-    if nat_eq change.resource k && nat_le change.period p then change.capacity else now
-
--- the capacity of a resource in a period after these changes
-unfoldable pub capacity_after : Project → ℕ → ℕ → List Change → ℕ
-capacity_after project k p changes = fold (changed k p) (capacity project k) changes
-
--- one change more
-pub capacity_after_more : (project : Project) (k p i : ℕ) (change : Change)
-    → slice_get project.changes i ≡ Some change
-    → capacity_after project k p (take (i + 1) project.changes)
-    ≡ changed k p (capacity_after project k p (take i project.changes)) change
-unfolding capacity_after
-capacity_after_more project k p i change at =
-    fold_more (changed k p) (capacity project k) project.changes i change
-    (slice_get_within project.changes i change at)
-    ∙ ap (changed k p (fold (changed k p) (capacity project k) (take i project.changes)))
-    (get_or_from_slice_get project.changes i change change at)
-
--- after all changes it is the capacity in the period
-pub capacity_after_all : (project : Project) (k p n : ℕ) → length project.changes ≤ n
-    → capacity_after project k p (take n project.changes) ≡ capacity_at project k p
-unfolding capacity_after capacity_at
-capacity_after_all project k p n all =
-    ap (fold (changed k p) (capacity project k)) (take_all n project.changes all)
-
--- a change of a calendar is of one of the resources
-pub change_resource : (resources i : ℕ) (changes : List Change) (change : Change)
-    → IsCalendar resources changes → slice_get changes i ≡ Some change
-    → (1 ≤ change.resource) × (change.resource ≤ resources)
-change_resource resources i changes change calendar at =
-    let within = slice_get_within changes i change at in
-    let e = get_or_from_slice_get changes i change change at in
-    subst (λ (c : Change). (1 ≤ c.resource) × (c.resource ≤ resources)) e
-    (calendar.within i change within).resource
 
 -- a capacity that is written for a resource from a period on and before the next one
 pub written_more : (old free : List ℕ) (periods resources r from amount q : ℕ)

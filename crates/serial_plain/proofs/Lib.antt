@@ -1,3 +1,6 @@
 pub mod CalendarLaws
 pub mod TableLaws
 pub mod SchemeLaws
+pub mod ShownLaws
+pub mod StepLaws
+mod Rows

@@ -3,7 +3,7 @@ use Rattle.std.proofs.Common.{◌≡◌, ℕ, ◌+◌, ◌-◌, ◌<◌, ◌≤�
 use Rattle.std.proofs.lemmas.List.{length-replicate, length-set, get_or-replicate}
 use Rattle.std.proofs.lemmas.List.Elements.{All-get_or}
 use Rattle.rc_instance.specs.Lists.{names}
-use Rattle.rc_instance.specs.Project.{Project, IsActivity, activity_count, horizon, duration, successors_of, precedes}
+use Rattle.rc_instance.specs.Project.{Project, IsActivity, activity_count, horizon, duration, successors_of, precedes, AreDemands}
 use Rattle.rc_instance.specs.Misfit.{HasNoMisfit}
 use Rattle.rc_instance.specs.Usage.{ready_time}
 use Rattle.rc_instance.specs.Serial.{serial_bookings, serial_start}
@@ -12,7 +12,7 @@ use Rattle.rc_instance.specs.Schedule.{start_at, serial_schedule}
 use Rattle.rc_instance.proofs.UsageLaws.{ready_time_push}
 use Rattle.rc_instance.proofs.SerialLaws.{serial_booking, serial_more, serial_start-is, serial_start-exact}
 use Rattle.rc_instance.proofs.FeasibleLaws.{finish-serial_start-le-horizon, serial_schedule_shown, starts_more}
-use Rattle.serial_plain.specs.Table.{HasRoomFor, IsTaken, AreDemands, ShowsFree}
+use Rattle.serial_plain.specs.Table.{HasRoomFor, IsTaken, ShowsFree}
 use Rattle.serial_plain.proofs.TableLaws.{room_from_fits, least_from_room, shows_more}
 
 -- the first c places of the order are booked: the table shows them, the ready time of each

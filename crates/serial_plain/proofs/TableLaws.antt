@@ -2,10 +2,10 @@
 use Rattle.std.proofs.Common.{◌≡◌, ℕ, ◌+◌, ◌-◌, ◌*◌, ◌<◌, ◌≤◌, List, [], ◌∷◌, ◌++◌, length, slice_index, refl, subst, inl, inr, arith}
 use Rattle.std.proofs.lemmas.Bool.{cases_eq, cases_lt}
 use Rattle.std.proofs.lemmas.Bool.Decides.{nat_tests}
-use Rattle.rc_instance.specs.Project.{Project, resource_count, horizon, duration, demand, capacity_at}
+use Rattle.rc_instance.specs.Project.{Project, resource_count, horizon, duration, demand, capacity_at, AreDemands}
 use Rattle.rc_instance.specs.Usage.{Booking, Fits, IsLeastFrom, usage, use_of}
 use Rattle.rc_instance.proofs.UsageLaws.{usage_push}
-use Rattle.serial_plain.specs.Table.{HasRoom, HasRoomFor, IsTaken, AreDemands, ShowsFree}
+use Rattle.serial_plain.specs.Table.{HasRoom, HasRoomFor, IsTaken, ShowsFree}
 
 -- a period after those that the demands were taken from has the room that it had
 pub room_left : (old new demands : List ℕ) (start taken duration p : ℕ)

@@ -1,7 +1,7 @@
 -- A table of what is free: one period after the other, and in each period one resource after the
 -- other. A list of demands, one for each resource, tells how wide it is.
 use Rattle.std.specs.Prelude.{◌≡◌, ℕ, ◌+◌, ◌*◌, ◌<◌, ◌≤◌, List, length, slice_index}
-use Rattle.rc_instance.specs.Project.{Project, resource_count, horizon, demand, capacity_at}
+use Rattle.rc_instance.specs.Project.{Project, resource_count, horizon, capacity_at}
 use Rattle.rc_instance.specs.Usage.{Booking, usage}
 
 -- what is free in period p is at least the demand for each resource
@@ -29,11 +29,6 @@ pub record IsTaken (old new demands : List ℕ) (start duration : ℕ) : Type 0 
       → slice_index new (p * length demands + j) ≡ slice_index old (p * length demands + j)
   pub after : (p j : ℕ) → j < length demands → start + duration ≤ p
       → slice_index new (p * length demands + j) ≡ slice_index old (p * length demands + j)
-
--- the list has the demand of the activity for each resource
-pub record AreDemands (project : Project) (a : ℕ) (demands : List ℕ) : Type 0 where
-  pub count : length demands ≡ resource_count project
-  pub each : (j : ℕ) → j < resource_count project → slice_index demands j ≡ demand project a (j + 1)
 
 -- the table has what the bookings leave of each capacity, in each period up to the horizon
 pub record ShowsFree (project : Project) (bookings : List Booking) (free : List ℕ) : Type 0 where

@@ -1,23 +1,34 @@
-//! The serial schedule generation scheme (Kolisch 1996) on a table of periods.
+//! The serial schedule generation scheme (Kolisch 1996), on a table of periods and on a line.
 //!
 //! [`serial`] books each activity of a feasible list in turn, at its least start, in a table of
 //! what is free of each resource in each period. Its answer is the `serial_schedule` of the
-//! definitions, which is feasible and ends by the horizon, or the first misfit of the instance. It
-//! stands on `rc_instance` and `activity_net`. One caller:
+//! definitions, which is feasible and ends by the horizon, or the first misfit of the instance.
+//! [`serial_on`] writes the same schedule, of an instance without a misfit, by bookings on a
+//! [`Line`](event_line::Line): its cost does not grow with the number of periods, and it takes no
+//! memory. [`serial_step`] is one step of it, so that a list with another end can be scheduled from
+//! where it differs. The crate stands on `rc_instance`, `activity_net` and `event_line`. One caller:
 //!
 //! ```text
 //! let net = Net::of(alloc, instance)?;
 //! let list = FeasibleList::of(alloc, &net, &order)?;
-//! let schedule = serial(alloc, &list)?;
-//! let makespan = schedule.makespan(net.instance());
+//! let instance = net.instance();
+//! instance.fits_all()?;
+//! let mut line = Line::new(alloc, instance)?;
+//! let mut schedule = Schedule::zero(alloc, instance.count())?;
+//! serial_on(&list, &mut line, &mut schedule);
+//! let makespan = schedule.makespan(instance);
 //! ```
 #![tactic(auto)]
 
 mod fault;
+mod on;
+#[cfg(test)]
+mod on_tests;
 mod scheme;
 mod table;
 #[cfg(test)]
 mod tests;
 
 pub use fault::SerialFault;
+pub use on::{serial_on, serial_step};
 pub use scheme::serial;

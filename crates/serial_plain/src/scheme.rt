@@ -1,11 +1,10 @@
 ghost use Rattle.std.specs.Prelude.{◌≡◌, ℕ, ◌+◌, ◌<◌, ◌≤◌, max, length, slice_index, if◌then◌else◌, IfOk, IfErr, OnOk};
 ghost use Rattle.std.specs.List.{All};
 ghost use Rattle.rc_instance.specs.Lists.{names, IsUpTo};
-ghost use Rattle.rc_instance.specs.Project.{IsActivity, resource_count, horizon};
+ghost use Rattle.rc_instance.specs.Project.{horizon};
 ghost use Rattle.rc_instance.specs.Misfit.{HasNoMisfit};
 ghost use Rattle.rc_instance.specs.Order.{IsFeasibleList};
 ghost use Rattle.rc_instance.specs.Schedule.{IsFeasible, makespan, serial_schedule};
-ghost use Rattle.serial_plain.specs.Table.{AreDemands};
 ghost use Rattle.serial_plain.specs.Fault.{IsFault};
 
 use crate::fault::SerialFault;
@@ -55,29 +54,17 @@ fn booked(alloc: Global, instance: &Instance, order: &[u32]) -> Result<Schedule,
 {
     let mut table = Table::new(alloc, instance)?;
     let mut ready = vec![in alloc; 0; instance.count() as usize]?;
-    let mut demands = vec![in alloc; 0; instance.resources() as usize]?;
     let mut schedule = Schedule::zero(alloc, instance.count())?;
     for activity in order {
         let duration = instance.duration(*activity);
         let floor = ready[*activity as usize - 1];
-        write_demands(instance, *activity, &mut demands);
-        let start = table.least_start(floor, duration, &demands);
-        table.book(start, duration, &demands);
+        let demands = instance.demands(*activity);
+        let start = table.least_start(floor, duration, demands);
+        table.book(start, duration, demands);
         raise(&mut ready, instance.successors(*activity), start + duration);
         schedule.set(*activity, start);
     }
     Ok(schedule)
-}
-
-// Writes the demands of an activity, one for each resource.
-fn write_demands(instance: &Instance, activity: u32, demands: &mut [u32])
-    requires activity { IsActivity instance.now activity }
-    requires width { length demands.old ≡ resource_count instance.now }
-    ensures { AreDemands instance.now activity demands.new }
-{
-    for resource in 1..instance.resources() + 1 {
-        demands[resource as usize - 1] = instance.demand(activity, resource);
-    }
 }
 
 // Raises the ready times of the successors to a finish.

@@ -26,7 +26,7 @@ fn take(count: u32, numbers: &[u32], at: &mut usize, list: &mut Vec<u32>) -> Res
 
 // The instance of these numbers: how many activities and resources, the capacities, and for each
 // activity its duration, its demands, how many successors it has, and its successors.
-fn instance_of(alloc: Global, numbers: &[u32]) -> Result<Instance, Fail> {
+pub(crate) fn instance_of(alloc: Global, numbers: &[u32]) -> Result<Instance, Fail> {
     let mut at = 0;
     let count = next(numbers, &mut at)?;
     let resources = next(numbers, &mut at)?;
@@ -104,7 +104,11 @@ fn is_ready(instance: &Instance, before: &[u32], activity: u32, a: u32) -> bool
 }
 
 // The same instance with nothing of its first resource in periods 1 and 2.
-fn with_pause(alloc: Global, instance: Instance, capacity: u32) -> Result<Instance, Memory>
+pub(crate) fn with_pause(
+    alloc: Global,
+    instance: Instance,
+    capacity: u32,
+) -> Result<Instance, Memory>
     requires resource { IsResource instance 1 }
     requires capacity { capacity ≤ 10 }
 {
@@ -219,7 +223,7 @@ fn gives(alloc: Global, instance: &Instance, order: &[u32], starts: &[u32]) -> R
     Ok(same)
 }
 
-const SIX: [u32; 28] = [
+pub(crate) const SIX: [u32; 28] = [
     6, 1, 2, // six activities, one resource of capacity 2
     0, 0, 3, 2, 3, 4, //
     3, 2, 1, 5, //
@@ -278,7 +282,7 @@ fn a_misfit_is_told(rt: HostRuntime) -> Result<(), Fail> {
 }
 
 // The next number below a bound, of a sequence that goes on from the seed.
-fn drawn(seed: &mut u32, bound: u32) -> u32
+pub(crate) fn drawn(seed: &mut u32, bound: u32) -> u32
     requires { 0 < bound }
     ensures { result < bound }
 {
@@ -287,7 +291,7 @@ fn drawn(seed: &mut u32, bound: u32) -> u32
 }
 
 // Eight activities and two resources, in numbers as `instance_of` reads them.
-fn generated(alloc: Global, seed: &mut u32) -> Result<Vec<u32>, Memory> {
+pub(crate) fn generated(alloc: Global, seed: &mut u32) -> Result<Vec<u32>, Memory> {
     let mut numbers = vec![in alloc; 8, 2, drawn(seed, 3) + 2, drawn(seed, 3) + 2]?;
     for activity in 1..9 {
         numbers.push(drawn(seed, 4))?;

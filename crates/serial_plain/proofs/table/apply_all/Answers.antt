@@ -1,5 +1,5 @@
 use Rattle.std.proofs.Common.{◌+◌, ◌∙◌, sym, ap, arith}
-use Rattle.serial_plain.proofs.CalendarLaws.{capacity_after, capacity_after_more, capacity_after_all, changed, change_resource}
+use Rattle.event_line.proofs.CalendarLaws.{capacity_after, capacity_after_more, capacity_after_all, changed, change_resource}
 use Rattle.serial_plain.proofs.table.apply_all.Goals as goal
 
 pub loop-index-init : goal.loop-index-init

@@ -1,6 +1,6 @@
 use Rattle.std.proofs.Common.{◌≡◌, ℕ, ◌+◌, ◌*◌, ◌<◌, take, get_or}
 use Rattle.rc_instance.specs.Project.{horizon, resource_count}
-use Rattle.serial_plain.proofs.CalendarLaws.{capacity_after}
+use Rattle.event_line.proofs.CalendarLaws.{capacity_after}
 use Rattle.serial_plain.proofs.table.apply_all.Given as goal
 
 abbrev pub invariant-loop-index : goal.invariant-loop-index
