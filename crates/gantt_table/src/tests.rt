@@ -1,9 +1,11 @@
-use crate::{chart, csv_table, table};
+use crate::{chart, csv_table, table, window_table};
+use activity_net::Net;
 use rc_instance::limits::MAX_HORIZON;
 use rc_instance::{Instance, Parts, Schedule};
 use std::alloc::Global;
 use std::process::Abort;
 use std::test::Fail;
+use time_windows::Windows;
 
 /// A schedule of an instance without precedence, and its texts.
 #[derive(Clone, Copy)]
@@ -137,5 +139,38 @@ fn texts_of_worked_schedules(rt: HostRuntime) -> Result<(), Fail> {
     for case in &[SIX, LONG, STILL] {
         has_texts(&rt, rt.alloc(), case)?;
     }
+    Ok(())
+}
+
+#[test]
+fn windows_of_six_activities(rt: HostRuntime) -> Result<(), Fail> {
+    let alloc = rt.alloc();
+    let lists: [&[u32]; 6] = [&[2, 3, 4], &[5], &[6], &[6], &[6], &[]];
+    let mut successors = Vec::new(alloc);
+    for list in lists {
+        successors.push(Vec::from_slice(alloc, list)?)?;
+    }
+    let parts = Parts {
+        capacities: Vec::from_slice(alloc, SIX.capacities)?,
+        durations: Vec::from_slice(alloc, SIX.durations)?,
+        demands: Vec::from_slice(alloc, SIX.demands)?,
+        successors,
+    };
+    assert_eq!(rt; parts.successors.len(), parts.durations.len());
+    let cells = parts.durations.len().checked_mul(parts.capacities.len());
+    assert_eq!(rt; cells, Some(parts.demands.len()));
+    let net = Net::of(alloc, Instance::build(alloc, parts)?)?;
+    let text = window_table(alloc, &net, &Windows::of(alloc, &net)?)?;
+    let expected = "activity  earliest    latest
+       1         0         0
+       2         0         0
+       3         0         2
+       4         0         2
+       5         3         3
+       6         4         4
+critical 4
+capacity 6
+";
+    assert_eq!(rt; text.as_slice(), expected.as_bytes());
     Ok(())
 }
