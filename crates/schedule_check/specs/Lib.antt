@@ -1,0 +1,9 @@
+pub mod Plan
+pub mod PlanFault
+pub mod Reading
+pub mod Violation
+pub mod Turning
+pub mod Records
+pub mod Words
+pub mod Checking
+pub mod Laws
