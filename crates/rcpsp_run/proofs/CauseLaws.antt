@@ -1,87 +1,172 @@
--- The cause of a refusal, where one more file is fetched after or before.
-use Rattle.std.proofs.Common.{◌≡◌, ℕ, zero, suc, ◌<◌, ◌≤◌, ◌+◌, List, [], ◌∷◌, length, take, get_or, Option, None, Some, IfSome, Result, Ok, Err, All, IsSomeAnd, slice_get, nat_lt, cond, Bool, true, false, refl, sym, subst, ap, ◌∙◌, arith}
+-- The cause of a refusal, and what several files hold, by what a fetch of all of them tells.
+use Rattle.std.proofs.Common.{◌≡◌, ◌⊎◌, ℕ, zero, suc, ◌<◌, ◌≤◌, List, [], ◌∷◌, length, take, map, get_or, Option, None, Some, IfSome, Result, Ok, Err, All, IsSomeAnd, slice_get, nat_lt, cond, true, false, refl, sym, subst, ap, ◌∙◌, inl, inr, arith, Vec, Global, Bor}
 use Rattle.std.proofs.lemmas.Bool.Decides.{nat_tests}
+use Rattle.std.specs.Option.{option_map}
+use Rattle.std.proofs.lemmas.Option.{slice_get-map}
+use Rattle.std.proofs.lemmas.List.{take-map}
+use Rattle.std.proofs.lemmas.List.Elements.{All-head, All-tail, All-map}
 use Rattle.rc_instance.specs.declared.limits.TheConstants.{MAX_FILE_BYTES}
-use Rattle.rc_edge.specs.Faults.{Rose}
 use Rattle.rc_edge.specs.Files.{file_of}
-use Rattle.rc_edge.specs.Fetches.{IsWithin}
+use Rattle.rc_edge.specs.Fetches.{IsWithin, IsBeyond, AreFiles, AreWithin, HasReason}
+use Rattle.rc_edge.specs.declared.files.FetchFault.{FetchFault}
+use Rattle.rc_edge.specs.declared.files.FetchFault.TheVariants as fetching
 use Rattle.rcpsp_run.specs.declared.refusal.Refusal.{Refusal}
-use Rattle.rcpsp_run.specs.declared.refusal.Refusal.TheVariants.{Words, CannotRead, TooLarge, BadText, Cycle, BadList, Misfit, Memory}
+use Rattle.rcpsp_run.specs.declared.refusal.Refusal.TheVariants.{TooLarge, BadText, Memory}
+use Rattle.rc_edge.specs.declared.text_fault.TextFault.{TextFault}
+use Rattle.rc_edge.specs.declared.text_fault.TextKind.TheVariants.{Memory as OutOfMemory}
+use Rattle.rc_edge.specs.Grammar.{out_of_memory}
+use Rattle.rcpsp_run.specs.Texts.{◌>>=◌, in_text}
 use Rattle.rcpsp_run.specs.Outcome.{contents, within_limit}
-use Rattle.rcpsp_run.specs.Causes.{FileCounts, FilesStand, HasCause, IsRefusedAt}
+use Rattle.rcpsp_run.specs.Causes.{FileCounts, HasCause, IsRefusedAt, IsRefusalOf, Explains, refusal_for}
 
--- no name has come before the first
-none_before : (told : Option (List (List ℕ × List ℕ))) (names : List (List ℕ))
-    → IfSome told (λ pairs. All (IsWithin pairs MAX_FILE_BYTES) (take 0 names))
-none_before None names = tt
-none_before (Some pairs) names = λ i d h. absurd (omega arith)
+-- the names of files, of which a caller holds references
+abbrev pub names_now : List (Bor (List ℕ)) → List (List ℕ)
+names_now names = map (λ name. name.now) names
 
--- a name that is refused at the one place of a list is refused at the first place of a longer one
-refused_first : (told : Option (List (List ℕ × List ℕ))) (file next : List ℕ) (rose : Type 0) (name : List ℕ)
-    → IsRefusedAt told (file ∷ []) rose name → IsRefusedAt told (file ∷ next ∷ []) rose name
-refused_first told file next rose name refused =
-    elim refused.place as (λ p. slice_get (file ∷ []) p ≡ Some name → IsRefusedAt told (file ∷ next ∷ []) rose name) [
-      | zero ↦ λ named. record { place = 0; named = named; shown = refused.shown; before = none_before told (file ∷ next ∷ []) }
-      | suc p ↦ λ named. absurd (cc)
-    ] refused.named
+-- an element of which something is known stands at its place
+pub found_there : {X : Type 0} (P : X → Type 0) (xs : List X) (place : ℕ) (d : X)
+    → IsSomeAnd (slice_get xs place) P
+    → (slice_get xs place ≡ Some (get_or xs place d)) × P (get_or xs place d)
+found_there P [] place d found = absurd found
+found_there P (x ∷ xs) zero d found = (refl, found)
+found_there P (x ∷ xs) (suc place) d found = found_there P xs place d found
 
--- the cause of a refusal of the first of two files
-pub first_refused : (told : Option (List (List ℕ × List ℕ))) (file next : List ℕ) (before after : FileCounts) (refusal : Refusal)
-    → HasCause told (file ∷ []) before after refusal → HasCause told (file ∷ next ∷ []) before after refusal
-first_refused told file next before after (CannotRead name) cause = refused_first told file next _ name cause
-first_refused told file next before after (TooLarge name) cause = refused_first told file next _ name cause
-first_refused told file next before after Words cause = cause
-first_refused told file next before after (BadText name fault) cause = cause
-first_refused told file next before after (Cycle ring) cause = cause
-first_refused told file next before after (BadList fault count) cause = cause
-first_refused told file next before after (Misfit misfit) cause = cause
-first_refused told file next before after Memory cause = cause
+-- a file within the limit is given
+within_limit-file : (name bytes : List ℕ) → length bytes ≤ MAX_FILE_BYTES
+    → within_limit name (Some bytes) ≡ Ok bytes
+within_limit-file name bytes small =
+    elim (nat_lt MAX_FILE_BYTES (length bytes)) as (λ b. nat_lt MAX_FILE_BYTES (length bytes) ≡ b
+    → cond b (Err (TooLarge name)) (Ok bytes) ≡ Ok bytes) [
+      | true ↦ λ is. absurd (grind (arith, nat_tests))
+      | false ↦ λ is. refl
+    ] refl
 
--- a file that was given is there within the limit
-pub contents-within : (pairs : List (List ℕ × List ℕ)) (name bytes : List ℕ) → contents pairs name ≡ Ok bytes → IsWithin pairs MAX_FILE_BYTES name
+-- a longer one is too large
+within_limit-large : (name bytes : List ℕ) → MAX_FILE_BYTES < length bytes
+    → within_limit name (Some bytes) ≡ Err (TooLarge name)
+within_limit-large name bytes large =
+    elim (nat_lt MAX_FILE_BYTES (length bytes)) as (λ b. nat_lt MAX_FILE_BYTES (length bytes) ≡ b
+    → cond b (Err (TooLarge name)) (Ok bytes) ≡ Err (TooLarge name)) [
+      | true ↦ λ is. refl
+      | false ↦ λ is. absurd (grind (arith, nat_tests))
+    ] refl
+
+-- files that are there within the limit are the contents
+pub contents-files : (pairs : List (List ℕ × List ℕ)) (names : List (Bor (List ℕ)))
+    (texts : List (Vec ℕ Global)) → AreFiles pairs names texts
+    → All (λ text. length text.items ≤ MAX_FILE_BYTES) texts
+    → contents pairs (names_now names) ≡ Ok (map (λ text. text.items) texts)
 unfolding contents
-contents-within pairs name bytes given = by_file (file_of pairs name) given
+contents-files pairs [] [] are small = refl
+contents-files pairs [] (text ∷ texts) are small = absurd are
+contents-files pairs (name ∷ names) [] are small = absurd are
+contents-files pairs (name ∷ names) (text ∷ texts) are small =
+    let first = ap (within_limit name.now) are.0
+    ∙ within_limit-file name.now text.items (All-head (λ (t : Vec ℕ Global). length t.items ≤ MAX_FILE_BYTES) text texts small) in
+    let others = contents-files pairs names texts are.1 (All-tail (λ (t : Vec ℕ Global). length t.items ≤ MAX_FILE_BYTES) text texts small) in
+    rw (first, others) refl
+
+-- the first file that is too large is the refusal
+pub contents-large : (pairs : List (List ℕ × List ℕ)) (names : List (Bor (List ℕ))) (place : ℕ)
+    (name : Bor (List ℕ)) → slice_get names place ≡ Some name
+    → AreWithin pairs MAX_FILE_BYTES (take place names) → IsBeyond pairs MAX_FILE_BYTES name.now
+    → contents pairs (names_now names) ≡ Err (TooLarge name.now)
+unfolding contents
+contents-large pairs [] place name is within beyond = absurd cc
+contents-large pairs (first ∷ names) zero name is within beyond =
+    by_file (file_of pairs first.now) refl
+    (subst (λ (n : Bor (List ℕ)). IsBeyond pairs MAX_FILE_BYTES n.now) (sym same) beyond)
+    ∙ ap (λ (n : Bor (List ℕ)). Err (TooLarge n.now)) same
   where
-    by_file : (file : Option (List ℕ)) → within_limit name file ≡ Ok bytes → IsSomeAnd file (λ held. length held ≤ MAX_FILE_BYTES)
-    by_file None given = absurd (cc)
-    by_file (Some held) given =
-        elim (nat_lt MAX_FILE_BYTES (length held)) as (λ b. nat_lt MAX_FILE_BYTES (length held) ≡ b
-        → cond b (Err (TooLarge name)) (Ok held) ≡ Ok bytes → length held ≤ MAX_FILE_BYTES) [
-          | true ↦ λ is given. absurd (cc)
-          | false ↦ λ is given. grind (arith, nat_tests)
-        ] refl given
+    same : first ≡ name
+    same = subst (λ (o : Option (Bor (List ℕ))). IsSomeAnd o (λ n. n ≡ name)) (sym is) refl
 
--- the first of two files, where the files tell that it is within the limit
-one_before : (told : Option (List (List ℕ × List ℕ))) (file next : List ℕ) → IfSome told (λ pairs. IsWithin pairs MAX_FILE_BYTES file)
-    → IfSome told (λ pairs. All (IsWithin pairs MAX_FILE_BYTES) (take 1 (file ∷ next ∷ [])))
-one_before None file next within = tt
-one_before (Some pairs) file next within = λ i d h.
-    elim i as (λ k. k < 1 → IsWithin pairs MAX_FILE_BYTES (get_or (file ∷ []) k d)) [
-      | zero ↦ λ _. within
-      | suc k ↦ λ h. absurd (omega arith)
-    ] h
+    by_file : (file : Option (List ℕ)) → file_of pairs first.now ≡ file
+        → IsSomeAnd file (λ bytes. MAX_FILE_BYTES < length bytes)
+        → (within_limit first.now (file_of pairs first.now) >>= (λ text. contents pairs (names_now names) >>= (λ texts. Ok (text ∷ texts))))
+        ≡ Err (TooLarge first.now)
+    by_file None is beyond = absurd beyond
+    by_file (Some bytes) is beyond = rw (is, within_limit-large first.now bytes beyond) refl
+contents-large pairs (first ∷ names) (suc place) name is within beyond =
+    by_file (file_of pairs first.now) refl (All-head (λ (n : Bor (List ℕ)). IsWithin pairs MAX_FILE_BYTES n.now) first (take place names) within)
+    (contents-large pairs names place name is (All-tail (λ (n : Bor (List ℕ)). IsWithin pairs MAX_FILE_BYTES n.now) first (take place names) within) beyond)
+  where
+    by_file : (file : Option (List ℕ)) → file_of pairs first.now ≡ file
+        → IsSomeAnd file (λ bytes. length bytes ≤ MAX_FILE_BYTES)
+        → contents pairs (names_now names) ≡ Err (TooLarge name.now)
+        → (within_limit first.now (file_of pairs first.now) >>= (λ text. contents pairs (names_now names) >>= (λ texts. Ok (text ∷ texts))))
+        ≡ Err (TooLarge name.now)
+    by_file None is within others = absurd within
+    by_file (Some bytes) is within others = rw (is, within_limit-file first.now bytes within, others) refl
 
--- a name that is refused after a file was given
-refused_second : (told : Option (List (List ℕ × List ℕ))) (file next : List ℕ) (rose rose' : Type 0) (name : List ℕ)
-    → IfSome told (λ pairs. IsWithin pairs MAX_FILE_BYTES file) → (rose → rose')
-    → IsRefusedAt told (next ∷ []) rose name → IsRefusedAt told (file ∷ next ∷ []) rose' name
-refused_second told file next rose rose' name within moves refused =
-    elim refused.place as (λ p. slice_get (next ∷ []) p ≡ Some name → IsRefusedAt told (file ∷ next ∷ []) rose' name) [
-      | zero ↦ λ named. record { place = 1; named = named; shown = moves refused.shown; before = one_before told file next within }
-      | suc p ↦ λ named. absurd (cc)
-    ] refused.named
+-- a name that is refused stands at a place of the names, behind files that are within the limit
+refused_at : (told : Option (List (List ℕ × List ℕ))) (names : List (Bor (List ℕ))) (place : ℕ)
+    (name : Bor (List ℕ)) (rose : Type 0) → slice_get names place ≡ Some name
+    → IfSome told (λ pairs. AreWithin pairs MAX_FILE_BYTES (take place names))
+    → rose → IsRefusedAt told (names_now names) rose name.now
+refused_at told names place name rose is within shown = record {
+  place = place;
+  named = slice_get-map (λ (n : Bor (List ℕ)). n.now) names place ∙ ap (option_map (λ (n : Bor (List ℕ)). n.now)) is;
+  shown = shown;
+  before = by_told told within;
+}
+  where
+    by_told : (told : Option (List (List ℕ × List ℕ)))
+        → IfSome told (λ pairs. AreWithin pairs MAX_FILE_BYTES (take place names))
+        → IfSome told (λ pairs. All (IsWithin pairs MAX_FILE_BYTES) (take place (names_now names)))
+    by_told None within = tt
+    by_told (Some pairs) within =
+        subst (All (IsWithin pairs MAX_FILE_BYTES)) (sym (take-map (λ (n : Bor (List ℕ)). n.now) place names))
+        (All-map (IsWithin pairs MAX_FILE_BYTES) (λ (n : Bor (List ℕ)). n.now) (take place names) within)
 
--- the cause of a refusal of the second of two files
-pub second_refused : (told : Option (List (List ℕ × List ℕ))) (file next : List ℕ) (before between after : FileCounts) (refusal : Refusal)
-    → FilesStand before between → IfSome told (λ pairs. IsWithin pairs MAX_FILE_BYTES file)
-    → HasCause told (next ∷ []) between after refusal → HasCause told (file ∷ next ∷ []) before after refusal
-second_refused told file next before between after (CannotRead name) stand within cause =
-    refused_second told file next _ _ name within (subst (λ (n : ℕ). Rose n (after.faults name)) (stand.0 name)) cause
-second_refused told file next before between after (TooLarge name) stand within cause =
-    refused_second told file next _ _ name within (subst (λ (n : ℕ). Rose n (after.long name)) (stand.1 name)) cause
-second_refused told file next before between after Words stand within cause = (λ n. cause.0 n ∙ stand.0 n, λ n. cause.1 n ∙ stand.1 n)
-second_refused told file next before between after (BadText name fault) stand within cause = (λ n. cause.0 n ∙ stand.0 n, λ n. cause.1 n ∙ stand.1 n)
-second_refused told file next before between after (Cycle ring) stand within cause = (λ n. cause.0 n ∙ stand.0 n, λ n. cause.1 n ∙ stand.1 n)
-second_refused told file next before between after (BadList fault count) stand within cause = (λ n. cause.0 n ∙ stand.0 n, λ n. cause.1 n ∙ stand.1 n)
-second_refused told file next before between after (Misfit misfit) stand within cause = (λ n. cause.0 n ∙ stand.0 n, λ n. cause.1 n ∙ stand.1 n)
-second_refused told file next before between after Memory stand within cause = tt
+-- the refusal of a fetch of several files has its cause
+pub has_cause : (told : Option (List (List ℕ × List ℕ))) (names : List (Bor (List ℕ))) (place : ℕ)
+    (name : Bor (List ℕ)) (before after : FileCounts) (fault : FetchFault) (refusal : Refusal)
+    → slice_get names place ≡ Some name
+    → HasReason fault before.faults after.faults before.long after.long name.now
+    → IfSome told (λ pairs. AreWithin pairs MAX_FILE_BYTES (take place names))
+    → IsRefusalOf name.now fault refusal
+    → HasCause told (names_now names) before after refusal
+has_cause told names place name before after fault refusal is reason within (inr memory) =
+    subst (HasCause told (names_now names) before after) (sym memory) tt
+has_cause told names place name before after fault refusal is reason within (inl same) =
+    subst (HasCause told (names_now names) before after) (sym same) (by_fault fault reason)
+  where
+    by_fault : (fault : FetchFault)
+        → HasReason fault before.faults after.faults before.long after.long name.now
+        → HasCause told (names_now names) before after (refusal_for name.now fault)
+    by_fault fetching.Failed reason = refused_at told names place name _ is within reason
+    by_fault fetching.TooLarge reason = refused_at told names place name _ is within reason
+    by_fault fetching.Memory reason = tt
+
+-- and it is the definition's
+pub explains_refused : (pairs : List (List ℕ × List ℕ)) (names : List (Bor (List ℕ))) (place : ℕ)
+    (name : Bor (List ℕ)) (fault : FetchFault) (refusal : Refusal)
+    → slice_get names place ≡ Some name
+    → AreWithin pairs MAX_FILE_BYTES (take place names)
+    → (fault ≡ fetching.TooLarge → IsBeyond pairs MAX_FILE_BYTES name.now)
+    → IsRefusalOf name.now fault refusal
+    → Explains refusal (contents pairs (names_now names))
+explains_refused pairs names place name fault refusal is within beyond (inr memory) =
+    subst (λ r. Explains r (contents pairs (names_now names))) (sym memory) tt
+explains_refused pairs names place name fault refusal is within beyond (inl same) =
+    subst (λ r. Explains r (contents pairs (names_now names))) (sym same) (by_fault fault beyond)
+  where
+    by_fault : (fault : FetchFault) → (fault ≡ fetching.TooLarge → IsBeyond pairs MAX_FILE_BYTES name.now)
+        → Explains (refusal_for name.now fault) (contents pairs (names_now names))
+    by_fault fetching.Failed beyond = tt
+    by_fault fetching.TooLarge beyond = contents-large pairs names place name is within (beyond refl)
+    by_fault fetching.Memory beyond = tt
+
+-- a bad text is the definition's refusal, if only its fault is
+pub explains_text : {X : Type 0} (name : List ℕ) (fault : TextFault) (refusal : Refusal)
+    (read : Result X TextFault) → (read ≡ Err fault) ⊎ (fault ≡ out_of_memory)
+    → (refusal ≡ BadText name fault) ⊎ (refusal ≡ Memory)
+    → (fault.kind ≡ OutOfMemory → refusal ≡ Memory)
+    → Explains refusal (in_text name read)
+explains_text {X} name fault refusal read was (inr memory) none =
+    subst (λ r. Explains r (in_text name read)) (sym memory) tt
+explains_text {X} name fault refusal read (inr lack) is none =
+    subst (λ r. Explains r (in_text name read)) (sym (none (ap (λ (f : TextFault). f.kind) lack))) tt
+explains_text {X} name fault refusal read (inl was) (inl is) none =
+    subst (λ r. Explains r (in_text name read)) (sym is) (ap (in_text name) was)

@@ -1,17 +1,18 @@
 -- A refusal with its cause meets what a run promises of its status.
-use Rattle.std.proofs.Common.{◌≡◌, ℕ, ◌<◌, List, length, Option, Some, None, IfSome, Result, Ok, Err, refl, sym, subst, arith, All, slice_get}
+use Rattle.std.proofs.Common.{◌≡◌, ℕ, List, Option, Some, None, IfSome, Result, refl, sym, subst}
 use Rattle.std.specs.Option.{option_map}
 use Rattle.std.proofs.lemmas.Option.{slice_get_within, get_or_from_slice_get}
 use Rattle.rc_edge.specs.Faults.{Rose}
 use Rattle.rcpsp_run.specs.declared.status.Status.{Status}
 use Rattle.rcpsp_run.specs.declared.refusal.Refusal.{Refusal}
-use Rattle.rcpsp_run.specs.declared.refusal.Refusal.TheVariants.{Words, CannotRead, TooLarge, BadText, Cycle, BadList, Misfit, Memory}
+use Rattle.rcpsp_run.specs.declared.refusal.Refusal.TheVariants.{Words, CannotRead, TooLarge, BadText, BadPlan, Cycle, BadList, Misfit, Memory}
+use Rattle.rcpsp_run.specs.Answers.{Answer}
 use Rattle.rcpsp_run.specs.Refusal.{status_of, line_of}
 use Rattle.rcpsp_run.specs.Causes.{FileCounts, HasCause, Explains, IsRefusedAt}
 use Rattle.rcpsp_run.specs.Run.{AreCalm, AgreesInFull, NoteGains, Tells}
 
 -- the note gains the line of the refusal
-pub notes-refused : (told : Option (List (List ℕ × List ℕ))) (names : List (List ℕ)) (outcome : Option (Result (List ℕ) Refusal))
+pub notes-refused : (told : Option (List (List ℕ × List ℕ))) (names : List (List ℕ)) (outcome : Option (Result Answer Refusal))
     (before after : FileCounts) (count count' : ℕ) (old new : Option (List ℕ)) (status : Status) (refusal : Refusal)
     → status ≡ status_of refusal → HasCause told names before after refusal
     → Tells count count' old new (line_of refusal) → IfSome outcome (Explains refusal)
@@ -26,6 +27,7 @@ notes-refused told names outcome before after count count' old new status refusa
     by_refusal (CannotRead name) cause tells explains = (CannotRead name, (refl, (cause, (tells, explains))))
     by_refusal (TooLarge name) cause tells explains = (TooLarge name, (refl, (cause, (tells, explains))))
     by_refusal (BadText name fault) cause tells explains = (BadText name fault, (refl, (cause, (tells, explains))))
+    by_refusal (BadPlan name fault) cause tells explains = (BadPlan name fault, (refl, (cause, (tells, explains))))
     by_refusal (Cycle ring) cause tells explains = (Cycle ring, (refl, (cause, (tells, explains))))
     by_refusal (BadList fault count) cause tells explains = (BadList fault count, (refl, (cause, (tells, explains))))
     by_refusal (Misfit misfit) cause tells explains = (Misfit misfit, (refl, (cause, (tells, explains))))
@@ -42,7 +44,7 @@ not_refused told names before after name calm refused =
 
 -- the status is that of the outcome
 pub agrees-refused : (told : Option (List (List ℕ × List ℕ))) (names : List (List ℕ)) (before after : FileCounts)
-    (outcome : Result (List ℕ) Refusal) (status : Status) (refusal : Refusal)
+    (outcome : Result Answer Refusal) (status : Status) (refusal : Refusal)
     → status ≡ status_of refusal → HasCause told names before after refusal → AreCalm names before after
     → Explains refusal outcome → AgreesInFull outcome status
 agrees-refused told names before after outcome status refusal is cause calm explains =
@@ -54,6 +56,7 @@ agrees-refused told names before after outcome status refusal is cause calm expl
     by_refusal (CannotRead name) cause explains = absurd (not_refused told names before after name calm cause)
     by_refusal (TooLarge name) cause explains = rw explains refl
     by_refusal (BadText name fault) cause explains = rw explains refl
+    by_refusal (BadPlan name fault) cause explains = rw explains refl
     by_refusal (Cycle ring) cause explains = rw explains refl
     by_refusal (BadList fault count) cause explains = rw explains refl
     by_refusal (Misfit misfit) cause explains = rw explains refl
@@ -68,3 +71,8 @@ IfSome-mapped (Some x) f P h = h
 pub IfSome-implied : {X : Type 0} (told : Option X) (P Q : X → Type 0) → ((x : X) → P x → Q x) → IfSome told P → IfSome told Q
 IfSome-implied None P Q implies h = h
 IfSome-implied (Some x) P Q implies h = implies x h
+
+-- two facts of what is told, as one
+pub IfSome-both : {X : Type 0} (told : Option X) (P Q : X → Type 0) → IfSome told P → IfSome told Q → IfSome told (λ x. P x × Q x)
+IfSome-both None P Q p q = tt
+IfSome-both (Some x) P Q p q = (p, q)

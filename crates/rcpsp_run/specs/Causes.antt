@@ -4,6 +4,8 @@ use Rattle.rc_instance.specs.declared.limits.TheConstants.{MAX_FILE_BYTES}
 use Rattle.rc_edge.specs.Faults.{Rose}
 use Rattle.rc_edge.specs.Files.{SameCounts}
 use Rattle.rc_edge.specs.Fetches.{IsWithin}
+use Rattle.rc_edge.specs.declared.files.FetchFault.{FetchFault}
+use Rattle.rc_edge.specs.declared.files.FetchFault.TheVariants as fault
 use Rattle.rcpsp_run.specs.declared.options.Options.{Options}
 use Rattle.rcpsp_run.specs.declared.refusal.Refusal.{Refusal}
 use Rattle.rcpsp_run.specs.declared.refusal.Refusal.TheVariants.{Words, CannotRead, TooLarge, Memory}
@@ -34,6 +36,16 @@ HasCause told names before after (TooLarge name) =
     IsRefusedAt told names (Rose (before.long name) (after.long name)) name
 HasCause told names before after Memory = Unit {0}
 HasCause told names before after refusal = FilesStand before after
+
+-- the refusal of a file by its fault
+abbrev pub refusal_for : List ℕ → FetchFault → Refusal
+refusal_for name fault.Failed = CannotRead name
+refusal_for name fault.TooLarge = TooLarge name
+refusal_for name fault.Memory = Memory
+
+-- what a file of this name is refused with, unless there was no memory to say it
+abbrev pub IsRefusalOf : List ℕ → FetchFault → Refusal → Type 0
+IsRefusalOf name fault refusal = (refusal ≡ refusal_for name fault) ⊎ (refusal ≡ Memory)
 
 -- a refusal is the definition's; want of memory and a file that cannot be read are free
 abbrev pub Explains : {Y : Type 0} → Refusal → Result Y Refusal → Type 0

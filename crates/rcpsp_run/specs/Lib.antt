@@ -5,6 +5,9 @@ pub mod Given
 pub mod Numbers
 pub mod Words
 pub mod Refusal
+pub mod Texts
+pub mod Answers
+pub mod AnswerView
 pub mod Outcome
 pub mod Causes
 pub mod Run

@@ -10,7 +10,8 @@ use Rattle.rcpsp_run.specs.declared.status.Status.TheVariants as status
 use Rattle.rcpsp_run.specs.declared.words.WordsFault.{WordsFault}
 use Rattle.rcpsp_run.specs.declared.words.WordsFault.TheVariants as words_fault
 use Rattle.rcpsp_run.specs.declared.refusal.Refusal.{Refusal}
-use Rattle.rcpsp_run.specs.declared.refusal.Refusal.TheVariants.{Words, CannotRead, TooLarge, BadText, Cycle, BadList, Misfit, Memory}
+use Rattle.rcpsp_run.specs.declared.refusal.Refusal.TheVariants.{Words, CannotRead, TooLarge, BadText, BadPlan, Cycle, BadList, Misfit, Memory}
+use Rattle.schedule_check.specs.PlanFault.{plan_kind_words}
 
 -- how a run ends that is refused so
 abbrev pub status_of : Refusal → Status
@@ -18,6 +19,7 @@ status_of Words = status.Words
 status_of (CannotRead _) = status.ReadFault
 status_of (TooLarge _) = status.TooLarge
 status_of (BadText _ _) = status.BadText
+status_of (BadPlan _ _) = status.BadText
 status_of (Cycle _) = status.Cycle
 status_of (BadList _ _) = status.BadList
 status_of (Misfit _) = status.Misfit
@@ -47,6 +49,7 @@ refusal_words Words = codes "words not understood"
 refusal_words (CannotRead name) = codes "cannot read " ++ name
 refusal_words (TooLarge name) = name ++ codes " is larger than 4194304 bytes"
 refusal_words (BadText name fault) = name ++ codes ": " ++ kind_words fault.kind ++ codes " at " ++ decimal fault.at
+refusal_words (BadPlan name fault) = name ++ codes ": " ++ plan_kind_words fault.kind ++ codes " in record " ++ decimal fault.row
 refusal_words (Cycle ring) = ring_words ring
 refusal_words (BadList fault count) = list_words fault count
 refusal_words (Misfit misfit) =

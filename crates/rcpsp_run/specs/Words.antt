@@ -7,7 +7,9 @@ use Rattle.rcpsp_run.specs.declared.options.Options.{Options}
 use Rattle.rcpsp_run.specs.declared.options.Command.{Command}
 use Rattle.rcpsp_run.specs.declared.options.Command.TheVariants as command
 use Rattle.rcpsp_run.specs.declared.options.Format.{Format}
-use Rattle.rcpsp_run.specs.declared.options.Format.TheVariants.{Rcp}
+use Rattle.rcpsp_run.specs.declared.options.Format.TheVariants.{Sm, Rcp}
+use Rattle.rcpsp_run.specs.declared.options.Form.{Form}
+use Rattle.rcpsp_run.specs.declared.options.Form.TheVariants.{Table, Chart, Csv}
 use Rattle.rcpsp_run.specs.declared.options.Order.{Order}
 use Rattle.rcpsp_run.specs.declared.options.Order.TheVariants as order
 use Rattle.priority_rules.specs.declared.rule.Rule.{Rule}
@@ -30,10 +32,29 @@ abbrev pub ends_in : List ℕ → List ℕ → Bool
 ends_in name ending =
     str_eq_ignore_ascii_case (drop (length name - length ending) name) ending
 
+-- the format of a word
+abbrev pub format_named : List ℕ → Option Format
+format_named word =
+    if bytes_eq word (codes "sm") then Some Sm
+    else if bytes_eq word (codes "rcp") then Some Rcp
+    else None
+
 -- the format of an instance: by its word, or else by the ending of the file's name
 abbrev pub format_of : List ℕ → Option (List ℕ) → Option Format
-format_of file (Some word) = if bytes_eq word (codes "rcp") then Some Rcp else None
-format_of file None = if ends_in file (codes ".rcp") then Some Rcp else None
+format_of file (Some word) = format_named word
+format_of file None =
+    if ends_in file (codes ".sm") then Some Sm
+    else if ends_in file (codes ".rcp") then Some Rcp
+    else None
+
+-- the form of a schedule, by its word; a table, where none is given
+abbrev pub form_of : Option (List ℕ) → Option Form
+form_of None = Some Table
+form_of (Some word) =
+    if bytes_eq word (codes "table") then Some Table
+    else if bytes_eq word (codes "chart") then Some Chart
+    else if bytes_eq word (codes "csv") then Some Csv
+    else None
 
 -- the priority rule of a word
 abbrev pub rule_of : List ℕ → Option Rule
@@ -68,20 +89,59 @@ abbrev pub only_word : List (List ℕ) → Option (List ℕ)
 only_word (word ∷ []) = Some word
 only_word _ = None
 
+-- the only two positional words
+abbrev pub two_words : List (List ℕ) → Option (List ℕ × List ℕ)
+two_words (first ∷ (second ∷ [])) = Some (first, second)
+two_words _ = None
+
+-- the format of the file of this name
+unfoldable pub file_format : Given → List ℕ → Option Format
+file_format given file = do
+  named ← value_of given.values (codes "format")
+  format_of file named
+
 -- the command `schedule`
 unfoldable pub schedule_of : Given → Option Command
 schedule_of given = do
   file ← only_word given.positional
-  named ← value_of given.values (codes "format")
-  format ← format_of file named
+  format ← file_format given file
   rule ← value_of given.values (codes "rule")
   list ← value_of given.values (codes "list")
   order ← order_of rule list
-  if are_names (Some file ∷ list ∷ []) then Some (command.Schedule file format order) else None
+  shown ← value_of given.values (codes "as")
+  form ← form_of shown
+  if are_names (Some file ∷ list ∷ []) then Some (command.Schedule file format order form) else None
+
+-- the command `check`
+unfoldable pub check_of : Given → Option Command
+check_of given = do
+  files ← two_words given.positional
+  format ← file_format given files.0
+  if are_names (Some files.0 ∷ Some files.1 ∷ []) then Some (command.Check files.0 format files.1) else None
+
+-- the command `convert`
+unfoldable pub convert_of : Given → Option Command
+convert_of given = do
+  file ← only_word given.positional
+  format ← file_format given file
+  said ← value_of given.values (codes "to")
+  word ← said
+  to ← format_named word
+  if are_names (Some file ∷ []) then Some (command.Convert file format to) else None
+
+-- the command `windows`
+unfoldable pub windows_of : Given → Option Command
+windows_of given = do
+  file ← only_word given.positional
+  format ← file_format given file
+  if are_names (Some file ∷ []) then Some (command.Windows file format) else None
 
 -- a command by what its words give
 abbrev pub command_of : Verb → Given → Option Command
 command_of verb.Schedule given = schedule_of given
+command_of verb.Check given = check_of given
+command_of verb.Convert given = convert_of given
+command_of verb.Windows given = windows_of given
 
 -- the options of the words
 unfoldable pub options_of : List (List ℕ) → Option Options

@@ -8,6 +8,7 @@ use crate::words::WordsFault;
 use activity_net::{ListFault, Ring};
 use rc_edge::TextFault;
 use rc_instance::{Memory, Misfit};
+use schedule_check::PlanFault;
 use std::fmt;
 
 /// Why a run has no output. Its `Display` is what the line on the note says of it.
@@ -24,6 +25,9 @@ pub enum Refusal {
 
     /// A text is not in its format: its first fault, which is never `Memory`.
     BadText { name: Name, fault: TextFault },
+
+    /// The text of a plan is faulty: its first fault, which is never `Memory`.
+    BadPlan { name: Name, fault: PlanFault },
 
     /// The precedence has a cycle.
     Cycle(Ring),
@@ -47,7 +51,7 @@ impl Refusal {
             Refusal::Words => Status::Words,
             Refusal::CannotRead { .. } => Status::ReadFault,
             Refusal::TooLarge { .. } => Status::TooLarge,
-            Refusal::BadText { .. } => Status::BadText,
+            Refusal::BadText { .. } | Refusal::BadPlan { .. } => Status::BadText,
             Refusal::Cycle(_) => Status::Cycle,
             Refusal::BadList { .. } => Status::BadList,
             Refusal::Misfit(_) => Status::Misfit,
@@ -71,6 +75,11 @@ impl fmt::Display for Refusal {
                 let kind = fault.kind;
                 let at = fault.at;
                 write!(f, "{name}: {kind} at {at}")
+            }
+            Refusal::BadPlan { name, fault } => {
+                let kind = fault.kind;
+                let row = fault.row;
+                write!(f, "{name}: {kind} in record {row}")
             }
             Refusal::Cycle(ring) => write_ring(f, ring.numbers()),
             Refusal::BadList { fault, activities } => write_list_fault(f, *fault, *activities),

@@ -6,6 +6,15 @@ ghost use Rattle.rcpsp_run.specs.Table.{verb_of, kind_of, options_by_name};
 pub(crate) enum Verb {
     /// `schedule FILE`.
     Schedule,
+
+    /// `check FILE PLAN`.
+    Check,
+
+    /// `convert FILE --to FORMAT`.
+    Convert,
+
+    /// `windows FILE`.
+    Windows,
 }
 
 /// How an option is written.
@@ -24,7 +33,7 @@ struct Entry {
     kind: Kind,
 }
 
-static SCHEDULE: [Entry; 3] = [
+static SCHEDULE: [Entry; 4] = [
     Entry {
         name: "format",
         kind: Kind::Valued,
@@ -37,7 +46,32 @@ static SCHEDULE: [Entry; 3] = [
         name: "list",
         kind: Kind::Valued,
     },
+    Entry {
+        name: "as",
+        kind: Kind::Valued,
+    },
 ];
+
+static CHECK: [Entry; 1] = [Entry {
+    name: "format",
+    kind: Kind::Valued,
+}];
+
+static CONVERT: [Entry; 2] = [
+    Entry {
+        name: "format",
+        kind: Kind::Valued,
+    },
+    Entry {
+        name: "to",
+        kind: Kind::Valued,
+    },
+];
+
+static WINDOWS: [Entry; 1] = [Entry {
+    name: "format",
+    kind: Kind::Valued,
+}];
 
 impl Verb {
     /// The command of a word.
@@ -46,6 +80,9 @@ impl Verb {
     {
         match word {
             "schedule" => Some(Verb::Schedule),
+            "check" => Some(Verb::Check),
+            "convert" => Some(Verb::Convert),
+            "windows" => Some(Verb::Windows),
             _ => None,
         }
     }
@@ -69,6 +106,9 @@ impl Verb {
     {
         match self {
             Verb::Schedule => SCHEDULE.as_slice(),
+            Verb::Check => CHECK.as_slice(),
+            Verb::Convert => CONVERT.as_slice(),
+            Verb::Windows => WINDOWS.as_slice(),
         }
     }
 }

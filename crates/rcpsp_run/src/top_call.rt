@@ -3,7 +3,7 @@ ghost use Rattle.std.specs.Option.{option_map};
 ghost use Rattle.rc_edge.specs.Faults.{Rose};
 ghost use Rattle.rcpsp_run.specs.Words.{options_of};
 ghost use Rattle.rcpsp_run.specs.Outcome.{outcome, names_of};
-ghost use Rattle.rcpsp_run.specs.Run.{IsCaused, IsOfWords, AreCalm, Agrees, AgreesInFull, OutputGains, PrintsFeasible, NoteGains, Tells};
+ghost use Rattle.rcpsp_run.specs.Run.{IsCaused, IsOfWords, AreCalm, Agrees, AgreesInFull, OutputGains, PrintsOutput, NoteGains, Tells};
 
 use crate::decide::decide;
 use crate::status::Status;
@@ -47,12 +47,13 @@ pub fn run<F: Files, O: Sink, N: Sink + Send, G: Gate + Sync>(
         (record { faults = F.faults files.new; long = F.long files.new })
         → Agrees (outcome (map string_bytes words.now) pairs) result) }
 
-    // The output gains the outcome's text at `Done`, a prefix of it where the write failed, and else nothing.
+    // The output gains the outcome's text at `Done` and `Violated`, a prefix of it where the write failed, and
+    // else nothing; whatever the files tell, it is what the command prints of some instance.
     ensures output { OutputGains (option_map (outcome (map string_bytes words.now)) (F.told files.old))
         (O.held out.old) (O.held out.new) result }
-    ensures feasible { PrintsFeasible (O.held out.old) (O.held out.new) result }
+    ensures prints { PrintsOutput (options_of (map string_bytes words.now)) (O.held out.old) (O.held out.new) result }
 
-    // The note gains the line of the status, and nothing at `Done`.
+    // The note gains the line of the status, and nothing where the output was written.
     ensures notes { NoteGains (F.told files.old) (names_of (options_of (map string_bytes words.now)))
         (option_map (outcome (map string_bytes words.now)) (F.told files.old))
         (record { faults = F.faults files.old; long = F.long files.old })
@@ -69,11 +70,16 @@ pub fn run<F: Files, O: Sink, N: Sink + Send, G: Gate + Sync>(
 
     // What a caller of generic code rests on stands.
     ensures told { F.told files.new ≡ F.told files.old }
+    ensures failing { F.failing files.new ≡ F.failing files.old }
+    ensures out_failing { O.failing out.new ≡ O.failing out.old }
+    ensures out_room { O.room out.new ≡ O.room out.old }
+    ensures note_failing { N.failing note.new ≡ N.failing note.old }
+    ensures note_room { N.room note.new ≡ N.room note.old }
 {
     let _ = gate;
     match decide(alloc, words, files) {
-        Ok(text) => match put_all(out, &text) {
-            Ok(()) => Status::Done,
+        Ok(answer) => match put_all(out, &answer.text) {
+            Ok(()) => answer.status(),
             Err(SinkFault::Failed) => {
                 tell(note, b"rcpsp: cannot write\n");
                 Status::WriteFault
@@ -94,7 +100,9 @@ pub fn run<F: Files, O: Sink, N: Sink + Send, G: Gate + Sync>(
 
 // Puts a line on the note; where that fails, the status stays.
 fn tell<N: Sink>(note: &mut N, line: &[u8])
-    ensures { Tells (N.faults note.old) (N.faults note.new) (N.held note.old) (N.held note.new) line.now }
+    ensures tells { Tells (N.faults note.old) (N.faults note.new) (N.held note.old) (N.held note.new) line.now }
+    ensures failing { N.failing note.new ≡ N.failing note.old }
+    ensures room { N.room note.new ≡ N.room note.old }
 {
     let _ = put_all(note, line);
 }

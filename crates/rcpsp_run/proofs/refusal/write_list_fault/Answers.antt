@@ -1,5 +1,4 @@
 use Rattle.std.proofs.Common.{append_assoc}
-use Rattle.rcpsp_run.specs.Refusal.{list_words}
 use Rattle.rcpsp_run.proofs.refusal.write_list_fault.Goals as goal
 
 pub returns-in-Length : goal.returns-in-Length

@@ -1,4 +1,4 @@
-use Rattle.std.proofs.Common.{List, ◌++◌, take, codes}
+use Rattle.std.proofs.Common.{◌++◌, take, codes}
 use Rattle.std.specs.List.{flat_map}
 use Rattle.std.specs.Fmt.{HasWritten, IsPlainFormatter, decimal}
 use Rattle.rcpsp_run.proofs.refusal.write_ring.Given as goal

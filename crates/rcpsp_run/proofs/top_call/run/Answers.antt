@@ -1,5 +1,4 @@
-use Rattle.std.proofs.Common.{◌≡◌, ℕ, List, Option, IfSome, map, string_bytes, subst, sym, ◌∙◌}
-use Rattle.std.specs.Option.{option_map}
+use Rattle.std.proofs.Common.{◌≡◌, map, string_bytes, subst, ◌∙◌}
 use Rattle.rcpsp_run.specs.Refusal.{line_of}
 use Rattle.rcpsp_run.specs.Causes.{FileCounts, Explains}
 use Rattle.rcpsp_run.specs.Outcome.{outcome, names_of}
@@ -10,10 +9,10 @@ use Rattle.rcpsp_run.proofs.top_call.run.Goals as goal
 
 pub returns-in-Ok-format-clause-notes : goal.returns-in-Ok-format-clause-notes
 returns-in-Ok-format-clause-notes g c =
-    let told = c.tell-in-Ok-format.ensures in
+    let told = c.tell-in-Ok-format.ensures.tells in
     let line : c.as_bytes.result.now ≡ line_of c.in-Err.refusal = c.as_bytes.ensures.value ∙ c.in-Ok-format.ensures.ok in
     let words = map string_bytes c.args.words.now in
-    notes-refused _ _ _ _ _ _ _ _ _ _ c.in-Err.refusal c.status.ensures c.in-Err.ensures.cause
+    notes-refused _ _ _ _ _ _ _ _ _ _ c.in-Err.refusal c.status-in-Ok-format.ensures c.in-Err.ensures.cause
     (subst (Tells _ _ _ _) line told)
     (IfSome-mapped _ (outcome words) (Explains c.in-Err.refusal) c.in-Err.ensures.outcome)
 
@@ -24,6 +23,6 @@ returns-in-Ok-format-clause-complete g c =
     let before : FileCounts = record { faults = g.F.Files.faults c.args.files.now; long = g.F.Files.long c.args.files.now } in
     let after : FileCounts = record { faults = g.F.Files.faults c.decide.new.files; long = g.F.Files.long c.decide.new.files } in
     IfSome-implied (g.F.Files.told c.args.files.now) (λ pairs. Explains c.in-Err.refusal (outcome words pairs)) _
-    (λ pairs explains calm _. agrees-refused (g.F.Files.told c.args.files.now) names before after (outcome words pairs) c.status.result
-    c.in-Err.refusal c.status.ensures c.in-Err.ensures.cause calm explains)
+    (λ pairs explains calm _. agrees-refused (g.F.Files.told c.args.files.now) names before after (outcome words pairs) c.status-in-Ok-format.result
+    c.in-Err.refusal c.status-in-Ok-format.ensures c.in-Err.ensures.cause calm explains)
     c.in-Err.ensures.outcome

@@ -1,5 +1,4 @@
 use Rattle.std.proofs.Common.{append_assoc}
-use Rattle.rcpsp_run.specs.Refusal.{refusal_words}
 use Rattle.rcpsp_run.proofs.refusal.RefusalDisplay.fmt.Goals as goal
 
 pub returns-in-Misfit-clause-writes : goal.returns-in-Misfit-clause-writes

@@ -2,7 +2,7 @@ use Rattle.std.proofs.Common.{◌≡◌, ◌≤◌, map, drop}
 use Rattle.std.specs.Option.{option_map}
 use Rattle.rcpsp_run.specs.Words.{are_names}
 use Rattle.rcpsp_run.proofs.NameLaws.{are_names_after}
-use Rattle.rcpsp_run.proofs.words.are_names.Given as goal
+use Rattle.rcpsp_run.proofs.values.are_names.Given as goal
 
 abbrev pub invariant-loop-name : goal.invariant-loop-name
 invariant-loop-name l = record {

@@ -5,7 +5,7 @@ use Rattle.std.proofs.lemmas.Bool.Decides.{same_from_decides}
 use Rattle.std.proofs.lemmas.Slice.Eq.{bytes_eq-Decides}
 use Rattle.std.proofs.lemmas.List.{take_all}
 use Rattle.rcpsp_run.specs.Words.{ends_in}
-use Rattle.rcpsp_run.proofs.words.ends_in.Goals as goal
+use Rattle.rcpsp_run.proofs.values.ends_in.Goals as goal
 
 -- a test of the last letters of a name tells whether it ends in them
 ends_in-is : (test : Bool) (name ending last : List ℕ)
