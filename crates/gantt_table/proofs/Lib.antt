@@ -1,5 +1,4 @@
 mod Rows
-pub mod PlaceLaws
 pub mod PieceLaws
 pub mod ColumnLaws
 pub mod RecordLaws

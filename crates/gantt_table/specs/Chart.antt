@@ -6,7 +6,7 @@ use Rattle.std.specs.Fmt.{decimal}
 use Rattle.rc_instance.specs.Project.{Project}
 use Rattle.rc_instance.specs.Usage.{Booking, finish}
 use Rattle.rc_instance.specs.Schedule.{bookings_of, makespan}
-use Rattle.gantt_table.specs.Places.{placed}
+use Rattle.rc_edge.specs.Written.{placed}
 
 -- how many periods a column covers: as few as let 100 columns cover a makespan, and at least 1
 abbrev pub column_width : ℕ → ℕ

@@ -5,7 +5,7 @@ use Rattle.std.specs.Fmt.{decimal}
 use Rattle.rc_instance.specs.Project.{Project}
 use Rattle.rc_instance.specs.Usage.{Booking, finish}
 use Rattle.rc_instance.specs.Schedule.{bookings_of, makespan}
-use Rattle.gantt_table.specs.Places.{placed}
+use Rattle.rc_edge.specs.Written.{placed}
 
 -- the line of a booking: its activity, start and finish, each right in 8 places
 unfoldable pub table_row : Project → Booking → List ℕ

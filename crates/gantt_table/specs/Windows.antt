@@ -6,7 +6,7 @@ use Rattle.rc_instance.specs.Lists.{numbers}
 use Rattle.rc_instance.specs.Project.{Project, activity_count}
 use Rattle.time_windows.specs.CapacityBound.{capacity_bound_of}
 use Rattle.time_windows.specs.Windows.{critical_of, earliest_of, latest_of}
-use Rattle.gantt_table.specs.Places.{placed}
+use Rattle.rc_edge.specs.Written.{placed}
 
 -- the line of an activity: its number right in 8 places, its earliest and latest start each in 10
 unfoldable pub window_row : Project → ℕ → List ℕ

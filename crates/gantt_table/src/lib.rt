@@ -7,7 +7,7 @@
 //! let text = table(alloc, &instance, &schedule)?;
 //! ```
 //!
-//! It stands on `rc_instance`, `activity_net` and `time_windows`, and writes CSV by the kit's
+//! It stands on `rc_instance`, `rc_edge`, `activity_net` and `time_windows`, and writes CSV by the kit's
 //! `csv`.
 #![tactic(auto)]
 

@@ -6,7 +6,7 @@ use Rattle.std.specs.Fmt.{decimal}
 use Rattle.std.specs.String.{string_bytes}
 use Rattle.rc_instance.specs.Schedule.{bookings_of}
 use Rattle.gantt_table.specs.Chart.{chart_text, chart_row}
-use Rattle.gantt_table.proofs.PlaceLaws.{styled_decimal-placed}
+use Rattle.rc_edge.proofs.PlaceLaws.{styled_decimal-placed}
 use Rattle.gantt_table.proofs.PieceLaws.{piece_written, pieces_written, booking_of, line_added}
 use Rattle.gantt_table.proofs.chart_text.chart.Goals as goal
 

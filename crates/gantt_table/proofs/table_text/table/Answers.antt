@@ -1,7 +1,7 @@
 use Rattle.std.proofs.Common.{◌≡◌, ◌++◌, ◌∙◌, arith, append_assoc, lit<}
 use Rattle.std.specs.String.{string_bytes}
 use Rattle.gantt_table.specs.Table.{table_text, table_row}
-use Rattle.gantt_table.proofs.PlaceLaws.{styled_decimal-placed}
+use Rattle.rc_edge.proofs.PlaceLaws.{styled_decimal-placed}
 use Rattle.gantt_table.proofs.PieceLaws.{piece_written, pieces_written, booking_of}
 use Rattle.gantt_table.proofs.table_text.table.Goals as goal
 

@@ -3,7 +3,7 @@ use Rattle.std.specs.Prelude.{codes}
 use Rattle.std.specs.String.{string_bytes}
 use Rattle.rc_instance.specs.Project.{activity_count}
 use Rattle.gantt_table.specs.Windows.{window_text, window_row}
-use Rattle.gantt_table.proofs.PlaceLaws.{styled_decimal-placed}
+use Rattle.rc_edge.proofs.PlaceLaws.{styled_decimal-placed}
 use Rattle.gantt_table.proofs.PieceLaws.{row_written, rows_begin, rows_written}
 use Rattle.gantt_table.proofs.window_text.window_table.Goals as goal
 
