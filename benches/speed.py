@@ -24,14 +24,27 @@ def instance(activities, resources, longest, seed):
     return "\n".join(lines) + "\n"
 
 
-def best(path, *words):
+def best(path, *words, status=0):
     """The least time of five runs, in milliseconds."""
     times = []
     for _ in range(5):
         start = time.perf_counter()
-        subprocess.run([program, "schedule", path, *words], stdout=subprocess.DEVNULL, check=True)
+        ran = subprocess.run([program, "schedule", path, *words], stdout=subprocess.DEVNULL, stderr=subprocess.DEVNULL)
         times.append(time.perf_counter() - start)
+        assert ran.returncode == status, (path, ran.returncode)
     return 1000 * min(times)
+
+
+def junk(size):
+    """Texts of so many bytes that are no instance: their time must grow with their bytes alone."""
+    head = b"jobs: 1000\n- renewable: 4\nPRECEDENCE RELATIONS:\n"
+    return {
+        "binary bytes": random.Random(1).randbytes(size),
+        "one line of tokens": b"1 " * (size // 2),
+        "one line of tokens in a section": head + b"1 " * ((size - len(head)) // 2),
+        "rulers": b"*** **\n" * (size // 7),
+        "lines with colons": b"jobs jobs: 1\n" * (size // 13),
+    }
 
 
 with tempfile.TemporaryDirectory() as folder:
@@ -45,3 +58,8 @@ with tempfile.TemporaryDirectory() as folder:
         path = pathlib.Path(folder) / "long.rcp"
         path.write_text(instance(1000, 16, 10, 1) + " " * (size * 1_000_000))
         print(f"the same with {size} MB of white space after it: {best(path):7.1f} ms")
+    for size in (1, 2, 4):
+        for name, text in junk(size * 1_000_000).items():
+            path = pathlib.Path(folder) / "junk.sm"
+            path.write_bytes(text)
+            print(f"{size} MB of {name}: {best(path, status=1):7.1f} ms")
