@@ -8,10 +8,9 @@ use Rattle.rc_instance.specs.Project.{Project, activity_count, IsActivity, Prece
 use Rattle.rc_instance.specs.Order.{IsFeasibleList}
 use Rattle.rc_instance.proofs.OrderLaws.{feasible_list-before, place_in_feasible_list}
 use Rattle.activity_net.specs.Network.{predecessors_of}
-use Rattle.activity_net.specs.Removal.{IsBeginning}
 use Rattle.activity_net.specs.Laws.{IsEligible}
 use Rattle.activity_net.proofs.NameLaws.{named_contains, contains_named, not_named}
-use Rattle.activity_net.proofs.RemovalLaws.{IsBeginning-push, named_predecessor, predecessor_named}
+use Rattle.activity_net.proofs.RemovalLaws.{named_predecessor, predecessor_named}
 use Rattle.activity_net.proofs.NetLaws.{find-some, find-none}
 
 -- what a search finds is in the list
@@ -27,59 +26,41 @@ found_named test (y ∷ ys) x found =
     ] found
 
 -- among what is not listed the first of a feasible list is eligible
-eligible_up_to : (project : Project) (order listed : List ℕ) (bound place : ℕ) → IsFeasibleList project order → place < bound → place < length order
+eligible_up_to : (project : Project) (order listed : List ℕ) (bound place : ℕ)
+    → IsFeasibleList project order → place < bound → place < length order
     → names listed (get_or order place 0) ≡ false → (a : ℕ) × IsEligible project listed a
 eligible_up_to project order listed zero place list below within out = Prim.absurd (omega arith)
 eligible_up_to project order listed (suc bound) place list below within out =
     let b = get_or order place 0 in
     let test = λ (p : ℕ). not (names listed p) in
-    elim (find test (predecessors_of project b)) as (λ o. find test (predecessors_of project b) ≡ o → (a : ℕ) × IsEligible project listed a) [
+    elim (find test (predecessors_of project b)) as
+    (λ o. find test (predecessors_of project b) ≡ o → (a : ℕ) × IsEligible project listed a) [
       | None ↦ λ none. (
         b,
         record {
           activity = list.activities place 0 within;
           unlisted = λ h. both_ways (names listed b) out (named_contains listed b h);
           ready = λ p is before. contains_named listed p
-              (not-false (names listed p) (find-none test (predecessors_of project b) p none (named_predecessor project p b is ∙ before)));
+              (not-false (names listed p) (find-none test (predecessors_of project b) p none
+              (named_predecessor project p b is ∙ before)));
         },
       )
       | Some p ↦ λ some.
-          let before = predecessor_named project p b (found_named test (predecessors_of project b) p some) in
-          let free : names listed p ≡ false = not-true (names listed p) (find-some test (predecessors_of project b) p some) in
+          let before = predecessor_named project p b
+          (found_named test (predecessors_of project b) p some) in
+          let free : names listed p ≡ false = not-true (names listed p)
+          (find-some test (predecessors_of project b) p some) in
           let earlier = feasible_list-before project order place p list within before.0 before.1 in
-          eligible_up_to project order listed bound earlier.0 list (omega (arith, earlier.1)) (omega (arith, earlier.1))
+          eligible_up_to project order listed bound earlier.0 list (omega (arith, earlier.1))
+          (omega (arith, earlier.1))
           (subst (λ (a : ℕ). names listed a ≡ false) (sym earlier.2) free)
     ] refl
 
 -- as long as an activity is left one is eligible
-pub eligible_exists : (project : Project) (order listed : List ℕ) (left : ℕ) → IsFeasibleList project order → IsActivity project left
+pub eligible_exists : (project : Project) (order listed : List ℕ) (left : ℕ)
+    → IsFeasibleList project order → IsActivity project left
     → (Contains listed left → ⊥) → (a : ℕ) × IsEligible project listed a
 eligible_exists project order listed left list activity out =
     let place = place_in_feasible_list project order left list activity in
     eligible_up_to project order listed (length order) place.0 list place.1 place.1
     (subst (λ (a : ℕ). names listed a ≡ false) (sym place.2) (not_named listed left out))
-
--- an eligible activity may come next
-pub IsBeginning-eligible : (project : Project) (listed : List ℕ) (a : ℕ) → IsBeginning project listed → IsEligible project listed a
-    → IsBeginning project (listed ++ a ∷ [])
-IsBeginning-eligible project listed a beginning eligible =
-    IsBeginning-push project listed a beginning eligible.activity (not_named listed a eligible.unlisted)
-    (λ p is before. named_contains listed p (eligible.ready p is before))
-
--- nothing is the beginning of a list
-pub IsBeginning-nil : (project : Project) → IsBeginning project []
-IsBeginning-nil project = record {
-  activities = λ i d h. Prim.absurd (omega arith);
-  once = λ i j d h k. Prim.absurd (omega arith);
-  after = λ place a h is before. Prim.absurd (omega arith);
-}
-
--- a beginning that lists as many activities as there are is a feasible list
-pub IsFeasibleList-whole : (project : Project) (order : List ℕ) → IsBeginning project order → length order ≡ activity_count project
-    → IsFeasibleList project order
-IsFeasibleList-whole project order beginning count = record {
-  count = count;
-  activities = beginning.activities;
-  once = beginning.once;
-  after = beginning.after;
-}

@@ -12,4 +12,5 @@ pub mod BitLaws
 pub mod FollowLaws
 pub mod ReachLaws
 pub mod EligibleLaws
+pub mod SwapLaws
 mod Rows

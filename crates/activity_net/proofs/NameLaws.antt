@@ -14,7 +14,8 @@ pub names_push : (xs : List ℕ) (y n : ℕ) → names (xs ++ y ∷ []) n ≡ (n
 names_push [] y n = grind (arith, nat_tests)
 names_push (x ∷ xs) y n =
     let more = names_push xs y n in
-    elim (nat_eq x n) as (λ b. (b || names (xs ++ y ∷ []) n) ≡ ((b || names xs n) || nat_eq y n)) [ true ↦ refl | false ↦ more ]
+    elim (nat_eq x n) as (λ b. (b || names (xs ++ y ∷ []) n) ≡ ((b || names xs n) || nat_eq y n))
+    [ true ↦ refl | false ↦ more ]
 
 -- so do the first numbers of a list, with the next one
 pub names_more : (xs : List ℕ) (i n : ℕ) → i < length xs
@@ -31,11 +32,13 @@ named_contains xs n = (names_decides xs n).1
 -- what a list does not contain it does not name
 pub not_named : (xs : List ℕ) (n : ℕ) → (Contains xs n → ⊥) → names xs n ≡ false
 not_named xs n none =
-    elim (names xs n) as (λ b. names xs n ≡ b → b ≡ false) [ true ↦ λ e. absurd (none (contains_named xs n e)) | false ↦ λ e. refl ] refl
+    elim (names xs n) as (λ b. names xs n ≡ b → b ≡ false)
+    [ true ↦ λ e. absurd (none (contains_named xs n e)) | false ↦ λ e. refl ] refl
 
 -- a number at a place of a list is named
 pub named_at : (xs : List ℕ) (i : ℕ) → i < length xs → names xs (get_or xs i 0) ≡ true
-named_at xs i within = named_contains xs (get_or xs i 0) (i, within, get_or_default xs i (get_or xs i 0) 0 within)
+named_at xs i within = named_contains xs (get_or xs i 0)
+    (i, within, get_or_default xs i (get_or xs i 0) 0 within)
 
 -- a number at a place of distinct numbers is not named before it
 pub not_named_before : (xs : List ℕ) (i : ℕ) → AllPairs (λ a b. a ≢ b) xs → i < length xs
@@ -48,10 +51,12 @@ not_named_before xs i once within = not_named (take i xs) (get_or xs i 0)
 
 -- rising numbers are distinct
 pub distinct_from_rising : (xs : List ℕ) → IsStrictlyIncreasing xs → AllPairs (λ a b. a ≢ b) xs
-distinct_from_rising xs rising = λ i j d below within. let h : get_or xs i d < get_or xs j d = AllPairs-from_increasing xs rising i j d below within in omega arith
+distinct_from_rising xs rising = λ i j d below within. let h : get_or xs i d < get_or xs j d =
+    AllPairs-from_increasing xs rising i j d below within in omega arith
 
 -- what passes a test is named as before
-pub names_filter : (test : ℕ → Bool) (xs : List ℕ) (n : ℕ) → names (filter test xs) n ≡ (names xs n && test n)
+pub names_filter : (test : ℕ → Bool) (xs : List ℕ) (n : ℕ) → names (filter test xs) n
+    ≡ (names xs n && test n)
 names_filter test [] n = refl
 names_filter test (x ∷ xs) n =
     let rest = names_filter test xs n in
@@ -63,10 +68,12 @@ names_filter test (x ∷ xs) n =
           rw here
           (elim (test x) as (λ b. b ≡ test n → names (cond b (x ∷ kept) kept) n ≡ test n) [
             | true ↦ λ e. rw here e
-            | false ↦ λ e. rest ∙ (ap (λ b. names xs n && b) (sym e) ∙ (and_right (names xs n) false refl ∙ e))
+            | false ↦ λ e. rest ∙ (ap (λ b. names xs n && b) (sym e)
+                ∙ (and_right (names xs n) false refl ∙ e))
           ] passes)
       | inr differ ↦
           let here : nat_eq x n ≡ false = grind (arith, nat_tests) in
           rw here
-          (elim (test x) as (λ b. names (cond b (x ∷ kept) kept) n ≡ (names xs n && test n)) [ true ↦ rw here rest | false ↦ rest ])
+          (elim (test x) as (λ b. names (cond b (x ∷ kept) kept) n ≡ (names xs n && test n))
+          [ true ↦ rw here rest | false ↦ rest ])
     ]

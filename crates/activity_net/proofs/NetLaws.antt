@@ -24,7 +24,8 @@ find-some test (y ∷ ys) x found =
       | false ↦ λ e h. find-some test ys x h
     ] refl found
 
-pub find-none : (test : ℕ → Bool) (xs : List ℕ) (x : ℕ) → find test xs ≡ None → names xs x ≡ true → test x ≡ false
+pub find-none : (test : ℕ → Bool) (xs : List ℕ) (x : ℕ) → find test xs ≡ None → names xs x ≡ true
+    → test x ≡ false
 find-none test [] x none named = Prim.absurd (true≢false (sym named))
 find-none test (y ∷ ys) x none named =
     elim (test y) as (λ b. test y ≡ b → cond b (Some y) (find test ys) ≡ None → test x ≡ false) [
@@ -50,15 +51,19 @@ numbers_once n = λ i j d below within same.
     omega arith
 
 -- where no activity is left, the order is a feasible list
-pub IsFeasibleList-removal : (project : Project) (order : List ℕ) (removed : List Bool) → IsRemoval project order removed
-    → find (is_unmarked removed) (numbers (activity_count project)) ≡ None → IsFeasibleList project order
+pub IsFeasibleList-removal : (project : Project) (order : List ℕ) (removed : List Bool)
+    → IsRemoval project order removed
+    → find (is_unmarked removed) (numbers (activity_count project)) ≡ None
+    → IsFeasibleList project order
 IsFeasibleList-removal project order removed removal none =
     let n = activity_count project in
     let all : All (Contains order) (numbers n) = λ i d within.
     let is = numbers_are project i d within in
-    let named = find-none (is_unmarked removed) (numbers n) (get_or (numbers n) i d) none (named_numbers n (get_or (numbers n) i d) is.0 is.1) in
+    let named = find-none (is_unmarked removed) (numbers n) (get_or (numbers n) i d) none
+    (named_numbers n (get_or (numbers n) i d) is.0 is.1) in
     contains_named order (get_or (numbers n) i d)
-    (sym (removal.shows.at (get_or (numbers n) i d) is.0 is.1) ∙ not-false (get_or removed (get_or (numbers n) i d - 1) false) named) in
+    (sym (removal.shows.at (get_or (numbers n) i d) is.0 is.1)
+    ∙ not-false (get_or removed (get_or (numbers n) i d - 1) false) named) in
     let few = distinct_few project order removal.beginning.activities removal.beginning.once in
     let many = sum_by-distinct (λ _. 1) (numbers n) order (numbers_once n) all in
     record {
@@ -69,16 +74,21 @@ IsFeasibleList-removal project order removed removal none =
     }
 
 -- where one is left, the least such one is stuck
-pub least_stuck-is : (project : Project) (order : List ℕ) (removed : List Bool) (start : ℕ) → IsRemoval project order removed
+pub least_stuck-is : (project : Project) (order : List ℕ) (removed : List Bool) (start : ℕ)
+    → IsRemoval project order removed
     → find (is_unmarked removed) (numbers (activity_count project)) ≡ Some start
     → (names (stuck project) start ≡ true) × (start ≡ least_stuck project)
 unfolding first_stuck
 least_stuck-is project order removed start removal found =
-    let same = sym (find_unmarked project order removed (numbers (activity_count project)) removal (numbers_are project)) ∙ found in
-    (find-some (names (stuck project)) (numbers (activity_count project)) start same, sym (ap (λ (o : Option ℕ). unwrap_or o 0) same))
+    let same = sym (find_unmarked project order removed (numbers (activity_count project)) removal
+    (numbers_are project)) ∙ found in (
+      find-some (names (stuck project)) (numbers (activity_count project)) start same,
+      sym (ap (λ (o : Option ℕ). unwrap_or o 0) same),
+    )
 
 -- the search of the code, whose marks are those of the removal
-pub searched : (project : Project) (order : List ℕ) (removed marks : List Bool) (found : Option ℕ) → IsRemoval project order removed
+pub searched : (project : Project) (order : List ℕ) (removed marks : List Bool) (found : Option ℕ)
+    → IsRemoval project order removed
     → marks ≡ removed → found ≡ find (is_unmarked marks) (numbers (length marks))
     → find (is_unmarked removed) (numbers (activity_count project)) ≡ found
 searched project order removed marks found removal same is =
@@ -87,10 +97,12 @@ searched project order removed marks found removal same is =
     ∙ ap (λ (ms : List Bool). find (is_unmarked ms) (numbers (activity_count project))) same))
 
 -- the cycle that is shown hangs on whether an activity is left
-pub shown_cycle-is : (project : Project) (order : List ℕ) (removed : List Bool) (found : Option ℕ) → IsRemoval project order removed
+pub shown_cycle-is : (project : Project) (order : List ℕ) (removed : List Bool) (found : Option ℕ)
+    → IsRemoval project order removed
     → find (is_unmarked removed) (numbers (activity_count project)) ≡ found
     → shown_cycle project ≡ option_map (λ _. shown_ring project) found
 unfolding shown_cycle
 shown_cycle-is project order removed found removal is =
     ap (option_map (λ _. shown_ring project))
-    (sym (find_unmarked project order removed (numbers (activity_count project)) removal (numbers_are project)) ∙ is)
+    (sym (find_unmarked project order removed (numbers (activity_count project)) removal
+    (numbers_are project)) ∙ is)

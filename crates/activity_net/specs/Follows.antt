@@ -18,7 +18,8 @@ pub record Follows (project : Project) (a b : ℕ) : Type 0 where
 -- the numbers that a list names, with their direct successors, in rising order
 abbrev pub with_successors : Project → List ℕ → List ℕ
 with_successors project known =
-    filter (λ b. names known b || list_any (λ a. precedes project a b) known) (numbers (activity_count project))
+    filter (λ b. names known b || list_any (λ a. precedes project a b) known)
+    (numbers (activity_count project))
 
 -- what follows a through at most so many others
 unfoldable pub followers_through : Project → ℕ → ℕ → List ℕ

@@ -7,3 +7,5 @@ pub mod NetView
 pub mod NetFault
 pub mod ListFault
 pub mod Laws
+pub mod RingWords
+pub mod FaultWords

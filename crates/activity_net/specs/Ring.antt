@@ -50,11 +50,13 @@ least xs = fold min (slice_index xs 0) xs
 unfoldable pub from_least : List ℕ → List ℕ
 from_least ring = drop (place_of (least ring) ring) ring ++ take (place_of (least ring) ring) ring
 
--- the cycle on the way back from the least stuck activity, in order of precedence, from its least number
+-- the cycle on the way back from the least stuck activity, in order of precedence, from its least
+-- number
 unfoldable pub shown_ring : Project → List ℕ
 shown_ring project =
     from_least (reverse (way_back project (activity_count project + 1) [] (least_stuck project)))
 
 -- the cycle that is shown, where the precedence has one
 unfoldable pub shown_cycle : Project → Option (List ℕ)
-shown_cycle project = option_map (λ _. shown_ring project) (find (names (stuck project)) (numbers (activity_count project)))
+shown_cycle project = option_map (λ _. shown_ring project)
+    (find (names (stuck project)) (numbers (activity_count project)))

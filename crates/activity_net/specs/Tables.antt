@@ -23,7 +23,8 @@ is_unmarked marks a = not (slice_index_or marks (a - 1) false)
 -- the lists of the successors of a have a at their end, the others are as they were
 pub record IsListedUnder (a : ℕ) (successors : List ℕ) (before after : List (List ℕ)) : Type 0 where
   pub at : (b : ℕ) → 1 ≤ b → b ≤ length before
-      → slice_index_or after (b - 1) [] ≡ slice_index_or before (b - 1) [] ++ (if names successors b then a ∷ [] else [])
+      → slice_index_or after (b - 1) [] ≡ slice_index_or before (b - 1) []
+      ++ (if names successors b then a ∷ [] else [])
 
 -- activity a is not marked, and waits for no other one
 pub record IsFree (waiting : List ℕ) (marks : List Bool) (a : ℕ) : Type 0 where
@@ -34,4 +35,5 @@ pub record IsFree (waiting : List ℕ) (marks : List Bool) (a : ℕ) : Type 0 wh
 -- each successor waits for one activity less, the others for as many as before
 pub record IsReleased (successors before after : List ℕ) : Type 0 where
   pub at : (b : ℕ) → 1 ≤ b → b ≤ length before
-      → slice_index after (b - 1) + (if names successors b then 1 else 0) ≡ slice_index before (b - 1)
+      → slice_index after (b - 1) + (if names successors b then 1 else 0)
+      ≡ slice_index before (b - 1)

@@ -1,13 +1,22 @@
-ghost use Rattle.std.specs.Prelude.{◌≡◌, ℕ, ◌<◌, ◌≤◌, List, length, slice_index, IsTrue, ◌↔◌};
-ghost use Rattle.rc_instance.specs.Lists.{names};
-ghost use Rattle.rc_instance.specs.Project.{Project, activity_count, IsActivity};
-ghost use Rattle.rc_instance.specs.Calendar.{IsWithinLimits, AreSuccessors};
+ghost use Rattle.std.specs.Prelude.{◌≡◌, ◌↔◌, ℕ, ◌<◌, ◌≤◌, List, None, length, slice_index, IsTrue, IfOk, IfErr};
+ghost use Rattle.rc_instance.specs.Lists.{names, IsRising};
+ghost use Rattle.rc_instance.specs.Project.{Project, activity_count, IsActivity, precedes};
+ghost use Rattle.rc_instance.specs.Calendar.{IsWithinLimits};
 ghost use Rattle.rc_instance.specs.Order.{IsFeasibleList, IsCycle};
 ghost use Rattle.activity_net.specs.Network.{Network, predecessors_of};
 ghost use Rattle.activity_net.specs.Follows.{Follows, followers, all_successors};
+ghost use Rattle.activity_net.specs.NetFault.{IsNetFault};
+ghost use Rattle.activity_net.specs.Ring.{shown_cycle};
 
 use crate::bits::has;
+use crate::fault::NetFault;
+use crate::marks::least_unmarked;
+use crate::predecessors::predecessor_lists;
+use crate::reach::follower_sets;
+use crate::removal::take_away;
+use crate::ring::Ring;
 use rc_instance::Instance;
+use std::alloc::Global;
 use std::marker::Model;
 
 /// An instance whose precedence has no cycle, with the predecessors of each activity.
@@ -15,10 +24,10 @@ use std::marker::Model;
 /// No reader takes memory.
 #[derive(Debug, Drop)]
 pub struct Net {
-    pub(crate) instance: Instance,
-    pub(crate) order: Vec<u32>,
-    pub(crate) predecessors: Vec<Vec<u32>>,
-    pub(crate) followers: Vec<Vec<u64>>,
+    instance: Instance,
+    order: Vec<u32>,
+    predecessors: Vec<Vec<u32>>,
+    followers: Vec<Vec<u64>>,
 }
 
 impl Model for Net {
@@ -34,6 +43,32 @@ impl Model for Net {
 }
 
 impl Net {
+    /// The net of an instance, where its precedence has no cycle.
+    ///
+    /// The cycle that is shown is fixed: activities without a predecessor are taken away until
+    /// there is none, and from the least one that is left the way goes back, each time to the least
+    /// predecessor that is left, until a number comes twice. A refused instance is dropped.
+    pub fn of(alloc: Global, instance: Instance) -> Result<Net, NetFault>
+        ensures made { IfOk result (λ net. net.project ≡ instance) }
+        ensures acyclic { IfOk result (λ _. (ring : List ℕ) → IsCycle instance ring → ⊥) }
+        ensures shown { IfOk result (λ _. shown_cycle instance ≡ None) }
+        ensures refused { IfErr result (IsNetFault instance) }
+    {
+        let predecessors = predecessor_lists(alloc, &instance)?;
+        let removal = take_away(alloc, &instance, &predecessors)?;
+        if let Some(start) = least_unmarked(&removal.removed) {
+            let ring = Ring::on_way_back(alloc, &instance, &predecessors, &removal, start)?;
+            return Err(NetFault::Cycle(ring));
+        }
+        let followers = follower_sets(alloc, &instance, &removal.order)?;
+        Ok(Net {
+            instance,
+            order: removal.order,
+            predecessors,
+            followers,
+        })
+    }
+
     /// The instance that the net is made of.
     pub fn instance(&self) -> &Instance
         ensures value { result.now ≡ self.now.project }
@@ -56,7 +91,7 @@ impl Net {
     pub fn predecessors(&self, activity: u32) -> &[u32]
         requires { IsActivity self.now.project activity }
         ensures value { result.now ≡ predecessors_of self.now.project activity }
-        ensures within { AreSuccessors (activity_count self.now.project) result.now }
+        ensures within { IsRising (activity_count self.now.project) result.now }
         ensures limits { IsWithinLimits self.now.project }
     {
         &self.predecessors[activity as usize - 1]
@@ -78,6 +113,15 @@ impl Net {
         ensures within { IsActivity self.now.project result }
     {
         self.predecessors(activity)[index as usize]
+    }
+
+    /// Whether an activity is a direct predecessor of a later one.
+    #[tactic(auto, unfolding(rc_instance::specs::Project::precedes))]
+    pub fn precedes(&self, activity: u32, later: u32) -> bool
+        requires { IsActivity self.now.project activity }
+        ensures { result ≡ precedes self.now.project activity later }
+    {
+        is_among(self.instance().successors(activity), later)
     }
 
     /// Whether a later activity follows an activity, directly or through others.
@@ -103,4 +147,11 @@ impl Net {
         }
         count
     }
+}
+
+// Whether a list names a number.
+fn is_among(list: &[u32], number: u32) -> bool
+    ensures { result ≡ names list.now number }
+{
+    list.iter().any(|a| *a == number)
 }

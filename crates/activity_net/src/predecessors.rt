@@ -1,6 +1,6 @@
 ghost use Rattle.std.specs.Prelude.{◌≡◌, ℕ, List, [], length, replicate, IfOk, OnOk};
 ghost use Rattle.rc_instance.specs.Project.{activity_count};
-ghost use Rattle.rc_instance.specs.Calendar.{AreSuccessors};
+ghost use Rattle.rc_instance.specs.Lists.{IsRising};
 ghost use Rattle.activity_net.specs.Network.{predecessor_table};
 ghost use Rattle.activity_net.specs.Tables.{lists_in, IsListedUnder};
 
@@ -41,7 +41,7 @@ fn fill(instance: &Instance, lists: &mut [Vec<u32>]) -> Result<(), Memory>
 
 // Puts the activity at the end of the list of each of its successors.
 fn list_under(activity: u32, successors: &[u32], lists: &mut [Vec<u32>]) -> Result<(), Memory>
-    requires { AreSuccessors (length lists.old) successors.now }
+    requires { IsRising (length lists.old) successors.now }
     ensures { OnOk result (IsListedUnder activity successors.now
         (lists_in lists.old) (lists_in lists.new)) }
 {

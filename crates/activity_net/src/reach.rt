@@ -1,7 +1,7 @@
 ghost use Rattle.std.specs.Prelude.{◌≡◌, ℕ, ◌/◌, ◌<◌, ◌≤◌, ◌||◌, length, nat_eq, replicate, take, vec_len, All, IfOk, OnOk};
 ghost use Rattle.std.specs.List.{list_any};
 ghost use Rattle.rc_instance.specs.Project.{activity_count};
-ghost use Rattle.rc_instance.specs.Calendar.{AreSuccessors};
+ghost use Rattle.rc_instance.specs.Lists.{IsRising};
 ghost use Rattle.rc_instance.specs.Order.{IsFeasibleList};
 ghost use Rattle.activity_net.specs.Tables.{lists_in};
 ghost use Rattle.activity_net.specs.Follows.{IsGathered, HoldFollowers, set_of, has_bit};
@@ -62,7 +62,7 @@ fn gathered(
     given: &[u32],
     sets: &[Vec<u64>],
 ) -> Result<Vec<u64>, Memory>
-    requires within { AreSuccessors (length sets.now) given.now }
+    requires within { IsRising (length sets.now) given.now }
     requires width { length sets.now / 64 < width }
     requires widths { All (λ s. length (set_of (lists_in sets.now) s) ≡ width) given.now }
     ensures { IfOk result (λ set. IsGathered width (lists_in sets.now) given.now set.items) }
@@ -74,7 +74,7 @@ fn gathered(
 
 // Puts these activities and what their sets hold into a set.
 fn gather(given: &[u32], sets: &[Vec<u64>], set: &mut [u64])
-    requires within { AreSuccessors (length sets.now) given.now }
+    requires within { IsRising (length sets.now) given.now }
     requires width { length sets.now / 64 < length set.old }
     requires widths { All (λ s. length (set_of (lists_in sets.now) s) ≡ length set.old) given.now }
     ensures { (b : ℕ) → has_bit set.new b ≡ (has_bit set.old b

@@ -1,16 +1,19 @@
 ghost use Rattle.std.specs.Prelude.{◌≡◌, ℕ, ◌+◌, ◌<◌, ◌≤◌, List, [], length, nat_eq, reverse, IsTrue, IfOk};
 ghost use Rattle.std.specs.List.{find, position};
+ghost use Rattle.std.specs.Fmt.{WritesOnOk};
 ghost use Rattle.rc_instance.specs.Lists.{names};
 ghost use Rattle.rc_instance.specs.Project.{activity_count, IsActivity};
 ghost use Rattle.activity_net.specs.Network.{predecessor_table};
 ghost use Rattle.activity_net.specs.Tables.{lists_in};
 ghost use Rattle.activity_net.specs.Removal.{IsRemoval};
+ghost use Rattle.activity_net.specs.RingWords.{ring_words};
 ghost use Rattle.activity_net.specs.Ring.{stuck, least_stuck, least, way_back, from_least, shown_ring};
 
 use crate::marks::first_unmarked;
 use crate::removal::Removal;
 use rc_instance::{Instance, Memory};
 use std::alloc::Global;
+use std::fmt;
 use std::marker::Model;
 
 /// A cycle of activities: each precedes the next one directly, and the last one the first.
@@ -52,6 +55,31 @@ impl Ring {
         numbers.reverse();
         turn_to_least(&mut numbers);
         Ok(Ring { numbers })
+    }
+}
+
+impl fmt::Display for Ring {
+    ghost use Rattle.std.specs.Prelude.{Some};
+    ghost use Rattle.activity_net.specs.RingWords.{ring_words};
+
+    ghost output = { λ ring. Some (ring_words ring) };
+
+    fn fmt<W: fmt::Write>(&self, f: &mut fmt::Formatter<W>) -> fmt::Result {
+        write_ring(f, &self.numbers)
+    }
+}
+
+// The numbers of a cycle in their order, and the first of them once more.
+fn write_ring<W: fmt::Write>(f: &mut fmt::Formatter<W>, numbers: &[u32]) -> fmt::Result
+    ensures { WritesOnOk W.write_str_gives f.old result (ring_words numbers.now) f.new }
+{
+    f.write_str("cycle")?;
+    for number in numbers {
+        write!(f, " {number}")?;
+    }
+    match numbers {
+        [] => Ok(()),
+        [first, ..] => write!(f, " {first}"),
     }
 }
 

@@ -102,7 +102,13 @@ fn lists_are_tested(rt: HostRuntime) -> Result<(), Fail> {
     let alloc = rt.alloc();
     let net = net(alloc, &SIX)?;
     for (order, fault) in [
-        ([1, 2, 3].as_slice(), Some(ListFault::Length { found: 3 })),
+        (
+            [1, 2, 3].as_slice(),
+            Some(ListFault::Length {
+                found: 3,
+                activities: 6,
+            }),
+        ),
         (
             &[1, 5, 2, 3, 4, 6],
             Some(ListFault::TooEarly {
@@ -138,6 +144,60 @@ fn a_list_takes_another_order(rt: HostRuntime) -> Result<(), Fail> {
     is_sync(&net);
     is_send(&list);
     is_sync(&list);
+    Ok(())
+}
+
+#[test]
+fn neighbours_are_exchanged(rt: HostRuntime) -> Result<(), Fail> {
+    let alloc = rt.alloc();
+    let net = net(alloc, &SIX)?;
+    assert_eq!(rt; net.instance().count(), 6);
+    assert!(rt; net.precedes(1, 2));
+    assert!(rt; !net.precedes(2, 3));
+    let order = Vec::from_slice(alloc, net.order())?;
+    let mut list = FeasibleList::from_feasible(&net, order);
+    assert_eq!(rt; list.order().len(), 6);
+    assert!(rt; !list.swap_at(0));
+    assert!(rt; list.swap_at(1));
+    assert_eq!(rt; list.order(), [1, 3, 2, 4, 5, 6].as_slice());
+    Ok(())
+}
+
+#[test]
+fn faults_say_what_they_are(rt: HostRuntime) -> Result<(), Fail> {
+    let alloc = rt.alloc();
+    for (fault, words) in [
+        (
+            ListFault::Length {
+                found: 3,
+                activities: 6,
+            },
+            "list: 3 numbers for 6 activities",
+        ),
+        (
+            ListFault::Unknown { position: 1 },
+            "list: position 1 is unknown",
+        ),
+        (
+            ListFault::Repeated { position: 2 },
+            "list: position 2 is repeated",
+        ),
+        (
+            ListFault::TooEarly {
+                position: 0,
+                predecessor: 4,
+            },
+            "list: position 0 comes before predecessor 4",
+        ),
+    ] {
+        let text = format!(in alloc; "{fault}").ok().ok_or("memory")?;
+        assert_eq!(rt; text.as_str(), words);
+    }
+    let fault = Net::of(alloc, instance(alloc, &[&[2], &[1]])?)
+        .err()
+        .ok_or("no cycle")?;
+    let text = format!(in alloc; "{fault}").ok().ok_or("memory")?;
+    assert_eq!(rt; text.as_str(), "cycle 1 2 1");
     Ok(())
 }
 

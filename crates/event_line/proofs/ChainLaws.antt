@@ -1,10 +1,10 @@
 -- How the links of a chain stand as nodes are made and taken away.
 use Rattle.std.proofs.Common.{◌≡◌, ◌≢◌, ℕ, ◌+◌, ◌<◌, ◌≤◌, List, [], ◌∷◌, ◌++◌, length, take, set, get_or, refl, sym, ap, ◌∙◌, inl, inr, arith, length-append, length-set, length-take}
 use Rattle.std.proofs.lemmas.Bool.{cases_eq, cases_lt}
-use Rattle.std.proofs.lemmas.List.{get_or-set_same, get_or-set_other, get_or_append_left, get_or-take}
+use Rattle.std.proofs.lemmas.List.{get_or-set_same, get_or-set_other, get_or_append_left, get_or-take, ext_get_or}
 use Rattle.std.proofs.Math.Seq.{get_or-append_seam}
 use Rattle.event_line.specs.declared.chain.TheConstants.{HEAD, TAIL, FAR}
-use Rattle.event_line.specs.Chain.{IsChain, AreNeighbours, StandsFor}
+use Rattle.event_line.specs.Chain.{Nodes, IsChain, AreNeighbours, StandsFor, IsLonger}
 use Rattle.event_line.specs.ChainView.{IsLinked}
 
 -- the periods of the nodes that are there stay as another node is made
@@ -359,3 +359,21 @@ linked_same periods next next' previous previous' linked same same' = record {
   next = λ i h below. rw (same i h) (linked.next i h below);
   previous = λ i h above. rw (same' i h) (linked.previous i h above);
 }
+
+-- a node that stands no later than another one stands before it
+pub node_before : (periods : List ℕ) (i j : ℕ) → IsChain periods → i < length periods
+    → j < length periods → get_or periods i 0 ≤ get_or periods j 0 → i ≢ j
+    → get_or periods i 0 < get_or periods j 0
+node_before periods i j chain hi hj le ne =
+    elim (cases_lt (get_or periods i 0) (get_or periods j 0)) [
+      | inl lt ↦ lt
+      | inr ge ↦ Prim.absurd (ne (chain.apart i j hi hj (omega arith)))
+    ]
+
+-- nodes that are as many as those they begin with are these
+pub nodes_same : (one other : Nodes) → IsLonger other.periods one.periods
+    → length one.periods ≤ length other.periods → one ≡ record one { periods = other.periods }
+nodes_same one other longer few =
+    let long = longer.long in
+    ap (λ (periods : List ℕ). record one { periods = periods })
+    (ext_get_or 0 one.periods other.periods (omega arith) (λ i h. longer.same i (omega arith)))

@@ -1,14 +1,17 @@
 -- Where the nodes have room, and where an activity fits.
-use Rattle.std.proofs.Common.{◌≡◌, ℕ, zero, suc, max, ◌+◌, ◌-◌, ◌*◌, ◌<◌, ◌≤◌, List, length, get_or, sym, ap, subst, inl, inr, arith}
+use Rattle.std.proofs.Common.{◌≡◌, ℕ, zero, suc, max, ◌+◌, ◌-◌, ◌<◌, ◌≤◌, List, length, get_or, nat_le, ap, subst, inl, inr, arith}
 use Rattle.std.proofs.lemmas.Bool.{cases_lt, cases_eq}
 use Rattle.rc_instance.specs.Project.{Project, IsResource, AreDemands, resource_count, demand, duration, capacity_at}
+use Rattle.rc_instance.specs.Calendar.{IsWithinLimits}
+use Rattle.rc_instance.specs.declared.limits.TheConstants.{MAX_CAPACITY}
 use Rattle.rc_instance.specs.Usage.{Booking, Fits, usage, rest_time}
+use Rattle.rc_instance.proofs.LimitLaws.{capacity_by-le}
 use Rattle.rc_instance.proofs.UsageLaws.{usage-ended}
 use Rattle.rc_instance.proofs.CapacityLaws.{capacity_at-last}
 use Rattle.event_line.specs.declared.chain.TheConstants.{HEAD}
 use Rattle.event_line.specs.Chain.{IsChain, StandsFor}
-use Rattle.event_line.specs.Rows.{HasRoom, HasRoomIn, HasRoomFor, HasRoomFrom}
-use Rattle.event_line.specs.Shown.{ShowsFree}
+use Rattle.event_line.specs.Rows.{left_at, HasRoom, HasRoomIn, HasRoomFor, HasRoomFrom}
+use Rattle.event_line.specs.Shown.{ShowsFree, PacksDemands}
 use Rattle.event_line.specs.Timeline.{FitsAtRest}
 use Rattle.event_line.proofs.SteadyLaws.{IsMarked, marked_usage, marked_capacity}
 
@@ -17,11 +20,32 @@ pub record FitsIn (project : Project) (bookings : List Booking) (a p : ℕ) : Ty
   pub within : (k : ℕ) → IsResource project k
       → usage project bookings k p + demand project a k ≤ capacity_at project k p
 
+-- no capacity is above the limit
+pub capacity_at-le : (project : Project) (k p : ℕ) → IsWithinLimits project → IsResource project k
+    → capacity_at project k p ≤ MAX_CAPACITY
+unfolding capacity_at
+capacity_at-le project k p limits is =
+    capacity_by-le project k (λ change. nat_le change.period p) limits is
+
+-- what is packed for an activity that fits somewhere is what it demands: it fits a row
+pub demands_from_fits : (project : Project) (bookings : List Booking) (demands : List ℕ) (a t : ℕ)
+    → IsWithinLimits project → 0 < duration project a → Fits project bookings a t
+    → PacksDemands project a demands → AreDemands project a demands
+demands_from_fits project bookings demands a t limits runs fits packs = record {
+  count = packs.count;
+  each = λ j h.
+      let resource : IsResource project (j + 1) = (omega arith, omega arith) in
+      let fit = fits.within (j + 1) t resource (omega arith) (omega arith) in
+      let most = capacity_at-le project (j + 1) t limits resource in
+      packs.each j h (omega arith);
+}
+
 -- what is shown of a resource by the node that stands for a period is what is left in the period
-pub left_in : (project : Project) (bookings : List Booking) (periods free : List ℕ) (i p j : ℕ)
+pub left_in : (project : Project) (bookings : List Booking) (periods : List ℕ) (free : List (List ℕ))
+    (i p j : ℕ)
     → IsMarked project bookings periods → ShowsFree project bookings periods free
     → StandsFor periods i p → j < resource_count project
-    → get_or free (i * resource_count project + j) 0 + usage project bookings (j + 1) p
+    → left_at free i j + usage project bookings (j + 1) p
     ≡ capacity_at project (j + 1) p
 left_in project bookings periods free i p j marked shows stands h =
     omega (
@@ -32,7 +56,8 @@ left_in project bookings periods free i p j marked shows stands h =
     )
 
 -- where a node has room, the activity fits in each period that it stands for
-pub fits_from_room : (project : Project) (bookings : List Booking) (periods free demands : List ℕ)
+pub fits_from_room : (project : Project) (bookings : List Booking) (periods : List ℕ)
+    (free : List (List ℕ)) (demands : List ℕ)
     (a i p : ℕ)
     → IsMarked project bookings periods → ShowsFree project bookings periods free
     → AreDemands project a demands → StandsFor periods i p → HasRoom free demands i
@@ -41,8 +66,7 @@ fits_from_room project bookings periods free demands a i p marked shows are stan
   within = λ k resource.
       let same : k - 1 + 1 ≡ k = omega arith in
       let j : k - 1 < resource_count project = omega arith in
-      let fits = subst (λ n. get_or demands (k - 1) 0 ≤ get_or free (i * n + (k - 1)) 0) are.count
-      (room.within (k - 1) (omega (arith, are.count))) in
+      let fits = room.within (k - 1) (omega (arith, are.count)) in
       subst (λ n. usage project bookings n p + demand project a n ≤ capacity_at project n p) same
       (omega (
         arith,
@@ -53,7 +77,8 @@ fits_from_room project bookings periods free demands a i p marked shows are stan
 }
 
 -- and where it fits, the node that stands for the period has room
-pub room_from_fits : (project : Project) (bookings : List Booking) (periods free demands : List ℕ)
+pub room_from_fits : (project : Project) (bookings : List Booking) (periods : List ℕ)
+    (free : List (List ℕ)) (demands : List ℕ)
     (a p : ℕ)
     → IsMarked project bookings periods → ShowsFree project bookings periods free
     → AreDemands project a demands → FitsIn project bookings a p
@@ -64,13 +89,13 @@ room_from_fits project bookings periods free demands a p marked shows are fits =
         let below : j < resource_count project = omega (arith, are.count) in
         let left = left_in project bookings periods free i p j marked shows stands below in
         let fit = fits.within (j + 1) (omega arith, omega arith) in
-        subst (λ n. get_or demands j 0 ≤ get_or free (i * n + j) 0) (sym are.count)
-        (omega (arith, are.each j below));
+        omega (arith, are.each j below);
   };
 }
 
 -- a start that fits has room
-pub room_for_fits : (project : Project) (bookings : List Booking) (periods free demands : List ℕ)
+pub room_for_fits : (project : Project) (bookings : List Booking) (periods : List ℕ)
+    (free : List (List ℕ)) (demands : List ℕ)
     (a t : ℕ)
     → IsMarked project bookings periods → ShowsFree project bookings periods free
     → AreDemands project a demands → Fits project bookings a t
@@ -83,10 +108,10 @@ room_for_fits project bookings periods free demands a t marked shows are fits = 
 
 -- of the first n nodes there is a latest one up to a period, if there is one at all
 stands_below : (periods : List ℕ) (p n : ℕ) → get_or periods HEAD 0 ≤ p
-    → (i : ℕ) × (i < max 1 n) × (get_or periods i 0 ≤ p)
+    → (i : ℕ) × (i < max 2 n) × (get_or periods i 0 ≤ p)
     × ((x : ℕ) → x < n → get_or periods x 0 ≤ p → get_or periods x 0 ≤ get_or periods i 0)
 stands_below periods p zero head =
-    (0, omega arith, head, λ x h. Prim.absurd (omega arith))
+    (HEAD, omega arith, head, λ x h. Prim.absurd (omega arith))
 stands_below periods p (suc n) head =
     let so_far = stands_below periods p n head in
     let i = so_far.0 in
@@ -132,7 +157,8 @@ stands_some periods p chain =
     (found.0, record { inside = omega arith; from = found.2; latest = found.3 })
 
 -- where each node of a span has room, the activity fits at its start
-pub fits_from_span : (project : Project) (bookings : List Booking) (periods free demands : List ℕ)
+pub fits_from_span : (project : Project) (bookings : List Booking) (periods : List ℕ)
+    (free : List (List ℕ)) (demands : List ℕ)
     (a start first last : ℕ)
     → IsMarked project bookings periods → ShowsFree project bookings periods free
     → AreDemands project a demands → IsChain periods
@@ -164,3 +190,11 @@ fits_at_rest project bookings a t fits rest = record {
         capacity_at-last project k p (omega arith),
       );
 }
+
+-- so is what is packed for one that fits at rest
+pub demands_at_rest : (project : Project) (bookings : List Booking) (demands : List ℕ) (a : ℕ)
+    → IsWithinLimits project → 0 < duration project a → FitsAtRest project a
+    → PacksDemands project a demands → AreDemands project a demands
+demands_at_rest project bookings demands a limits runs fits packs =
+    demands_from_fits project bookings demands a (rest_time project bookings) limits runs
+    (fits_at_rest project bookings a (rest_time project bookings) fits (omega arith)) packs

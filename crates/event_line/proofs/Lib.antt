@@ -1,4 +1,6 @@
 pub mod ChainLaws
+pub mod LaneLaws
+pub mod TableLaws
 pub mod RowLaws
 pub mod SearchLaws
 pub mod JournalLaws
@@ -7,5 +9,6 @@ pub mod SteadyLaws
 pub mod FitLaws
 pub mod StateLaws
 pub mod PlaceLaws
+pub mod KeepLaws
 pub mod CalendarLaws
 pub mod WorkedRows

@@ -1,14 +1,14 @@
 -- What a search over the nodes finds is the start that the definitions ask for.
-use Rattle.std.proofs.Common.{ℕ, max, ◌+◌, ◌-◌, ◌*◌, ◌<◌, ◌≤◌, List, [], ◌∷◌, ◌++◌, length, sym, ap, ◌∙◌, arith}
+use Rattle.std.proofs.Common.{◌≡◌, ℕ, max, ◌+◌, ◌-◌, ◌*◌, ◌<◌, ◌≤◌, List, [], ◌∷◌, ◌++◌, length, get_or, sym, ap, ◌∙◌, arith}
 use Rattle.rc_instance.specs.declared.limits.TheConstants.{MAX_HORIZON}
 use Rattle.rc_instance.specs.Project.{Project, IsActivity, AreDemands, activity_count, duration}
 use Rattle.rc_instance.specs.Calendar.{IsWithinLimits}
-use Rattle.rc_instance.specs.Usage.{Booking, IsLeastFrom, IsLastBy, last_finish, rest_time}
+use Rattle.rc_instance.specs.Usage.{Booking, IsLeastFrom, IsLastBy, finish, last_finish, rest_time}
 use Rattle.rc_instance.proofs.LimitLaws.{last_change-le}
 use Rattle.event_line.specs.declared.entry.Entry.{Entry}
 use Rattle.event_line.specs.Chain.{IsChain, StandsFor, IsLonger}
 use Rattle.event_line.specs.Rows.{HasRoomFor, HasRoomFrom, IsBooked}
-use Rattle.event_line.specs.Journal.{bookings_in, IsEntry, IsMade}
+use Rattle.event_line.specs.Journal.{booking_of, bookings_in, IsEntry, IsMade}
 use Rattle.event_line.specs.Timeline.{IsUnbooked, FitsAtRest}
 use Rattle.event_line.specs.LineView.{IsShown}
 use Rattle.event_line.proofs.JournalLaws.{journal_few, entries_fewer}
@@ -16,7 +16,8 @@ use Rattle.event_line.proofs.FitLaws.{room_for_fits, fits_from_span, fits_at_res
 use Rattle.event_line.proofs.StateLaws.{shown_marked, shown_booked}
 
 -- a start has room that is no later than the floor, or the time of rest
-pub rest_has_room : (project : Project) (base : ℕ) (periods rows demands : List ℕ)
+pub rest_has_room : (project : Project) (base : ℕ) (periods : List ℕ) (rows : List (List ℕ))
+    (demands : List ℕ)
     (entries : List Entry) (a floor : ℕ)
     → IsShown project base periods rows entries → AreDemands project a demands
     → FitsAtRest project a
@@ -37,7 +38,8 @@ rest_within project bookings limits ended =
     omega arith
 
 -- the least start that has room is the least one that fits
-pub least_found : (project : Project) (base : ℕ) (periods rows demands : List ℕ)
+pub least_found : (project : Project) (base : ℕ) (periods : List ℕ) (rows : List (List ℕ))
+    (demands : List ℕ)
     (entries : List Entry) (a floor start first last : ℕ)
     → IsShown project base periods rows entries → AreDemands project a demands → IsChain periods
     → floor ≤ start → StandsFor periods first start
@@ -58,7 +60,8 @@ least_found project base periods rows demands entries a floor start first last s
     }
 
 -- the latest start that has room is the latest one that fits
-pub last_found : (project : Project) (base : ℕ) (periods rows demands : List ℕ)
+pub last_found : (project : Project) (base : ℕ) (periods : List ℕ) (rows : List (List ℕ))
+    (demands : List ℕ)
     (entries : List Entry) (a by start first last : ℕ)
     → IsShown project base periods rows entries → AreDemands project a demands → IsChain periods
     → start + duration project a ≤ by → StandsFor periods first start
@@ -80,7 +83,7 @@ last_found project base periods rows demands entries a by start first last shown
     }
 
 -- there is room for the nodes of one more booking
-pub nodes_left : (project : Project) (base room : ℕ) (periods rows : List ℕ)
+pub nodes_left : (project : Project) (base room : ℕ) (periods : List ℕ) (rows : List (List ℕ))
     (entries : List Entry) (a : ℕ)
     → IsShown project base periods rows entries → IsActivity project a
     → IsUnbooked (bookings_in entries) a → base + 2 * activity_count project ≤ room
@@ -93,7 +96,8 @@ nodes_left project base room periods rows entries a shown activity unbooked enou
     omega arith
 
 -- a booking that was made is shown
-pub shown_placed : (project : Project) (base : ℕ) (periods rows periods' rows' demands : List ℕ)
+pub shown_placed : (project : Project) (base : ℕ) (periods : List ℕ) (rows : List (List ℕ))
+    (periods' : List ℕ) (rows' : List (List ℕ)) (demands : List ℕ)
     (entries : List Entry) (a start : ℕ) (entry : Entry)
     → IsShown project base periods rows entries → AreDemands project a demands
     → IsActivity project a → IsUnbooked (bookings_in entries) a → 0 < duration project a

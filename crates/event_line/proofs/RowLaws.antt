@@ -1,32 +1,15 @@
 -- How what is free at the nodes changes as demands are taken and nodes are made.
-use Rattle.std.proofs.Common.{◌≡◌, ◌≢◌, ℕ, ◌+◌, ◌-◌, ◌*◌, ◌<◌, ◌≤◌, List, [], ◌∷◌, ◌++◌, length, get_or, refl, sym, ap, ◌∙◌, subst, inl, inr, arith, length-append}
+use Rattle.std.proofs.Common.{◌≡◌, ◌≢◌, ℕ, ◌-◌, ◌<◌, ◌≤◌, List, [], ◌∷◌, ◌++◌, length, get_or, refl, sym, ap, ◌∙◌, inl, inr, arith, length-append}
 use Rattle.std.proofs.lemmas.Bool.{cases_eq, cases_lt}
 use Rattle.std.proofs.lemmas.Bool.Decides.{nat_tests}
-use Rattle.std.proofs.lemmas.Nat.{mul-le}
 use Rattle.event_line.specs.Chain.{IsChain, AreNeighbours, StandsFor, IsLonger}
-use Rattle.event_line.specs.Rows.{HasRoom, IsTakenAt, HasRoomFrom, HasRoomBefore, IsTaken, share, IsRefined, IsBooked}
+use Rattle.event_line.specs.Rows.{row_at, left_at, HasRoom, IsTakenAt, HasRoomFrom, HasRoomBefore, IsTaken, share, IsRefined, IsBooked}
 use Rattle.event_line.proofs.ChainLaws.{old_node, new_node}
 
--- the row of a node ends before that of each later one begins
-pub row_before : (i n width : ℕ) → i < n → i * width + width ≤ n * width
-row_before i n width h = omega (arith, mul-le (i + 1) width n width (omega arith) (omega arith))
-
--- the row of a node lies within the rows of all
-pub row_within : (i nodes room width long : ℕ) → i < nodes → nodes ≤ room → long ≡ room * width
-    → i * width + width ≤ long
-row_within i nodes room width long h le e = omega (arith, row_before i room width (omega arith))
-
 -- taken from the row of one node, each other row is as it was
-pub taken_other : (old new demands : List ℕ) (node i j : ℕ) → IsTakenAt old new demands node
-    → i ≢ node → j < length demands
-    → get_or new (i * length demands + j) 0 ≡ get_or old (i * length demands + j) 0
-taken_other old new demands node i j taken ne h =
-    let width = length demands in
-    elim (cases_lt i node) [
-      | inl lt ↦ taken.before (i * width + j) (omega (arith, row_before i node width lt))
-      | inr ge ↦ taken.after (i * width + j)
-          (omega (arith, row_before node i width (omega arith)))
-    ]
+pub taken_other : (old new : List (List ℕ)) (demands : List ℕ) (node i j : ℕ)
+    → IsTakenAt old new demands node → i ≢ node → left_at new i j ≡ left_at old i j
+taken_other old new demands node i j taken ne = ap (λ row. get_or row j 0) (taken.others i ne)
 
 -- no share falls into no periods
 pub share_none : (demands : List ℕ) (from p j : ℕ) → share demands from p p j ≡ 0
@@ -53,7 +36,7 @@ share_other demands from p next q j ne none lt = elim (cases_lt p q) [
 ]
 
 -- from no period on, nothing is taken
-pub taken_none : (periods free demands : List ℕ) (from : ℕ)
+pub taken_none : (periods : List ℕ) (free : List (List ℕ)) (demands : List ℕ) (from : ℕ)
     → IsTaken periods free free demands from from
 taken_none periods free demands from = record {
   each = λ i j hi hj. omega (arith, share_empty demands from (get_or periods i 0) j);
@@ -70,7 +53,8 @@ share_more periods demands from node next i j chain near le h ne =
     (λ e. ne (chain.apart i node h near.first (sym e))) (near.none i h) near.rise
 
 -- taken up to a node and then at it, the demands are taken up to the next node
-pub taken_more : (periods old now new demands : List ℕ) (from node next : ℕ) → IsChain periods
+pub taken_more : (periods : List ℕ) (old now new : List (List ℕ)) (demands : List ℕ)
+    (from node next : ℕ) → IsChain periods
     → AreNeighbours periods node next → from ≤ get_or periods node 0
     → IsTaken periods old now demands from (get_or periods node 0)
     → IsTakenAt now new demands node
@@ -90,13 +74,14 @@ taken_more periods old now new demands from node next chain near le so_far here 
       arith,
       so_far.each i j hi hj,
       share_more periods demands from node next i j chain near le hi ne,
-      taken_other now new demands node i j here ne hj,
+      taken_other now new demands node i j here ne,
     )
   ];
 }
 
 -- given back up to a node and then at it, the demands are given back up to the next node
-pub given_more : (periods old now new demands : List ℕ) (from node next : ℕ) → IsChain periods
+pub given_more : (periods : List ℕ) (old now new : List (List ℕ)) (demands : List ℕ)
+    (from node next : ℕ) → IsChain periods
     → AreNeighbours periods node next → from ≤ get_or periods node 0
     → IsTaken periods now old demands from (get_or periods node 0)
     → IsTakenAt new now demands node
@@ -116,21 +101,21 @@ given_more periods old now new demands from node next chain near le so_far here 
       arith,
       so_far.each i j hi hj,
       share_more periods demands from node next i j chain near le hi ne,
-      taken_other new now demands node i j here ne hj,
+      taken_other new now demands node i j here ne,
     )
   ];
 }
 
 -- a node that the demands are not yet taken at has the row that it had
-pub row_left : (periods old now demands : List ℕ) (from node j : ℕ)
+pub row_left : (periods : List ℕ) (old now : List (List ℕ)) (demands : List ℕ) (from node j : ℕ)
     → IsTaken periods old now demands from (get_or periods node 0) → node < length periods
     → j < length demands
-    → get_or now (node * length demands + j) 0 ≡ get_or old (node * length demands + j) 0
+    → left_at now node j ≡ left_at old node j
 row_left periods old now demands from node j so_far inside h =
     omega (arith, so_far.each node j inside h, share_none demands from (get_or periods node 0) j)
 
 -- and so the room that it had
-pub room_left : (periods old now demands : List ℕ) (from node : ℕ)
+pub room_left : (periods : List ℕ) (old now : List (List ℕ)) (demands : List ℕ) (from node : ℕ)
     → IsTaken periods old now demands from (get_or periods node 0) → node < length periods
     → HasRoom old demands node → HasRoom now demands node
 room_left periods old now demands from node so_far inside room = record {
@@ -148,11 +133,11 @@ stands_itself periods i h = record {
 }
 
 -- no node is lost and each row stays, where nothing is done
-pub refined_same : (width : ℕ) (periods free : List ℕ)
-    → IsRefined width periods free periods free
-refined_same width periods free = record {
+pub refined_same : (periods : List ℕ) (free : List (List ℕ))
+    → IsRefined periods free periods free
+refined_same periods free = record {
   longer = record { long = omega arith; same = λ i h. refl };
-  rows = record { each = λ i h. (i, stands_itself periods i h, λ j hj. refl) };
+  rows = record { each = λ i h. (i, stands_itself periods i h, refl) };
 }
 
 -- nodes that come after others are nodes
@@ -182,10 +167,11 @@ stands_through periods periods' o i p longer one two =
     }
 
 -- nodes that are made of nodes that were made
-pub refined_trans : (width : ℕ) (periods free periods' free' periods'' free'' : List ℕ)
-    → IsRefined width periods free periods' free' → IsRefined width periods' free' periods'' free''
-    → IsRefined width periods free periods'' free''
-refined_trans width periods free periods' free' periods'' free'' one two = record {
+pub refined_trans : (periods : List ℕ) (free : List (List ℕ)) (periods' : List ℕ)
+    (free' : List (List ℕ)) (periods'' : List ℕ) (free'' : List (List ℕ))
+    → IsRefined periods free periods' free' → IsRefined periods' free' periods'' free''
+    → IsRefined periods free periods'' free''
+refined_trans periods free periods' free' periods'' free'' one two = record {
   longer = longer_trans periods periods' periods'' one.longer two.longer;
   rows = record {
     each = λ i h.
@@ -194,18 +180,17 @@ refined_trans width periods free periods' free' periods'' free'' one two = recor
           earlier.0,
           stands_through periods periods' earlier.0 later.0 (get_or periods'' i 0) one.longer
               earlier.1 later.1,
-          λ j hj. later.2 j hj ∙ earlier.2 j hj,
+          later.2 ∙ earlier.2,
         );
   };
 }
 
 -- a node that is made with the row of the one that stood for its period
-pub refined_more : (width : ℕ) (periods free free' : List ℕ) (at period n : ℕ)
-    → StandsFor periods at period → n ≡ length periods
-    → ((j : ℕ) → j < width → get_or free' (n * width + j) 0 ≡ get_or free (at * width + j) 0)
-    → ((x : ℕ) → x < n * width → get_or free' x 0 ≡ get_or free x 0)
-    → IsRefined width periods free (periods ++ period ∷ []) free'
-refined_more width periods free free' at period n stands en row before =
+pub refined_more : (periods : List ℕ) (free free' : List (List ℕ)) (at period n : ℕ)
+    → StandsFor periods at period → n ≡ length periods → row_at free' n ≡ row_at free at
+    → ((x : ℕ) → x ≢ n → row_at free' x ≡ row_at free x)
+    → IsRefined periods free (periods ++ period ∷ []) free'
+refined_more periods free free' at period n stands en row others =
     let long = length-append periods (period ∷ []) in
     record {
       longer = record { long = omega arith; same = λ i h. old_node periods period i h };
@@ -214,28 +199,27 @@ refined_more width periods free free' at period n stands en row before =
           | inl lt ↦ (
             i,
             rw (old_node periods period i lt) (stands_itself periods i lt),
-            λ j hj. before (i * width + j) (omega (arith, row_before i n width (omega arith))),
+            others i (λ e. omega arith),
           )
           | inr ge ↦
               let e : i ≡ n = omega arith in (
                 at,
                 rw (new_node periods period i (omega arith)) stands,
-                λ j hj. rw e (row j hj),
+                rw e row,
               )
         ];
       };
     }
 
 -- the rows that a span had are there to be taken from once its nodes are made
-pub room_of_span : (width : ℕ) (periods free periods' free' demands : List ℕ)
-    (first last first' end' start end : ℕ)
-    → IsRefined width periods free periods' free' → length demands ≡ width
-    → HasRoomFrom periods free demands first last
+pub room_of_span : (periods : List ℕ) (free : List (List ℕ)) (periods' : List ℕ)
+    (free' : List (List ℕ)) (demands : List ℕ) (first last first' end' start end : ℕ)
+    → IsRefined periods free periods' free' → HasRoomFrom periods free demands first last
     → StandsFor periods first start → StandsFor periods last (end - 1) → 0 < end
     → get_or periods' first' 0 ≡ start → get_or periods' end' 0 ≡ end
     → HasRoomBefore periods' free' demands first' end'
-room_of_span width periods free periods' free' demands first last first' end' start end refined ew
-    room stands ends some es ee = record {
+room_of_span periods free periods' free' demands first last first' end' start end refined room stands
+    ends some es ee = record {
       each = λ i h from before.
           let row = refined.rows.each i h in
           let o = row.0 in
@@ -245,28 +229,20 @@ room_of_span width periods free periods' free' demands first last first' end' st
           let high : get_or periods o 0 ≤ get_or periods last 0 =
           ends.latest o row.1.inside (omega arith) in
           let old = room.each o row.1.inside low high in
-          record {
-            within = λ j hj.
-                let same = row.2 j (omega arith) in
-                let fits = old.within j hj in
-                rw ew (omega (arith, subst (λ w. get_or demands j 0 ≤ get_or free (o * w + j) 0) ew fits));
-          };
+          record { within = λ j hj. rw row.2 (old.within j hj) };
     }
 
 -- with the nodes made and the demands taken at them, a span is booked
-pub booked_from : (periods free periods' now new demands : List ℕ) (width start end : ℕ)
-    → IsRefined width periods free periods' now → length demands ≡ width
-    → IsTaken periods' now new demands start end
+pub booked_from : (periods : List ℕ) (free : List (List ℕ)) (periods' : List ℕ)
+    (now new : List (List ℕ)) (demands : List ℕ) (start end : ℕ)
+    → IsRefined periods free periods' now → IsTaken periods' now new demands start end
     → IsBooked periods free periods' new demands start end
-booked_from periods free periods' now new demands width start end refined ew taken = record {
+booked_from periods free periods' now new demands start end refined taken = record {
   each = λ i h.
       let row = refined.rows.each i h in (
         row.0,
         row.1,
-        λ j hj.
-            let same = subst (λ w. get_or now (i * w + j) 0 ≡ get_or free (row.0 * w + j) 0) (sym ew)
-            (row.2 j (omega arith)) in
-            taken.each i j h hj ∙ same,
+        λ j hj. taken.each i j h hj ∙ ap (λ r. get_or r j 0) row.2,
       );
 }
 

@@ -1,26 +1,24 @@
 -- How what the nodes show changes as bookings are made and taken away.
-use Rattle.std.proofs.Common.{◌≡◌, ℕ, ◌+◌, ◌*◌, ◌^◌, ◌<◌, ◌≤◌, List, [], ◌∷◌, ◌++◌, length, take, get_or, nat_le, refl, sym, ap, ◌∙◌, subst, inl, inr, arith, length-take}
+use Rattle.std.proofs.Common.{◌≡◌, ℕ, ◌+◌, ◌<◌, ◌≤◌, List, [], ◌∷◌, ◌++◌, length, take, get_or, refl, sym, ap, ◌∙◌, inl, inr, arith, length-take}
 use Rattle.std.proofs.lemmas.Bool.{cases_lt}
 use Rattle.std.proofs.lemmas.Bool.Decides.{nat_tests}
 use Rattle.std.proofs.lemmas.List.Elements.{All-weaker, All-map}
 use Rattle.rc_instance.specs.declared.change.Change.{Change}
-use Rattle.rc_instance.specs.declared.limits.TheConstants.{MAX_CAPACITY}
-use Rattle.rc_instance.specs.Project.{Project, IsResource, AreDemands, resource_count, duration, capacity_at}
+use Rattle.rc_instance.specs.Project.{Project, AreDemands, resource_count, demand, duration, capacity_at}
 use Rattle.rc_instance.specs.Calendar.{IsWithinLimits}
-use Rattle.rc_instance.specs.Usage.{Booking, finish, use_of}
-use Rattle.rc_instance.proofs.LimitLaws.{capacity_by-le}
-use Rattle.rc_instance.proofs.UsageLaws.{usage_push}
+use Rattle.rc_instance.specs.Usage.{Booking, finish, last_finish, use_of}
+use Rattle.rc_instance.proofs.UsageLaws.{usage_push, usage-ended, last_finish_push}
 use Rattle.event_line.specs.declared.entry.Entry.{Entry}
 use Rattle.event_line.specs.Chain.{IsLonger}
-use Rattle.event_line.specs.Rows.{share, IsTaken, IsBooked, CanTakeBack}
-use Rattle.event_line.specs.Shown.{HasNode, HasChanges, ShowsCapacities, ShowsFree}
+use Rattle.event_line.specs.Rows.{row_at, left_at, share, IsTaken, IsBooked, CanTakeBack}
+use Rattle.event_line.specs.Shown.{HasNode, HasChanges, ShowsCapacities, ShowsFree, PacksDemands, RunsWith}
 use Rattle.event_line.specs.Journal.{booking_of, bookings_in, nodes_with, IsEntry}
 use Rattle.event_line.specs.Timeline.{IsUnbooked}
 use Rattle.event_line.specs.LineView.{IsShown}
 use Rattle.event_line.proofs.ChainLaws.{kept_node}
-use Rattle.event_line.proofs.RowLaws.{row_within, share_empty, share_here}
+use Rattle.event_line.proofs.RowLaws.{share_empty, share_here}
 use Rattle.event_line.proofs.SteadyLaws.{IsMarked}
-use Rattle.event_line.proofs.FitLaws.{left_in}
+use Rattle.event_line.proofs.FitLaws.{left_in, capacity_at-le}
 use Rattle.event_line.proofs.JournalLaws.{journal_rises, journal_all, journal_push, journal_front, journal_newest, journal_same, nodes_with_push, bookings_push, once_push, once_front}
 
 -- more nodes are nodes of a chain with more nodes
@@ -30,7 +28,8 @@ node_more periods n m p le node =
     (node.0, omega arith, node.2)
 
 -- what is shown stands at nodes
-pub shown_marked : (project : Project) (base : ℕ) (periods rows : List ℕ) (entries : List Entry)
+pub shown_marked : (project : Project) (base : ℕ) (periods : List ℕ) (rows : List (List ℕ))
+    (entries : List Entry)
     → IsShown project base periods rows entries
     → IsMarked project (bookings_in entries) periods
 shown_marked project base periods rows entries shown =
@@ -56,16 +55,15 @@ shown_marked project base periods rows entries shown =
 
 -- the share of a resource is what the booking uses of it
 share_use : (project : Project) (demands : List ℕ) (booking : Booking) (start end p j : ℕ)
-    → AreDemands project booking.activity demands → j < resource_count project
+    → get_or demands j 0 ≡ demand project booking.activity (j + 1)
     → booking.start ≡ start → finish project booking ≡ end
     → share demands start end p j ≡ use_of project (j + 1) p booking
-share_use project demands booking start end p j are h es ee =
-    let each = are.each j h in
-    rw (sym es, sym ee, each)
+share_use project demands booking start end p j same es ee = rw (sym es, sym ee, same) refl
 
 -- with a booking made, the rows have what it leaves
 free_booked : (project : Project) (bookings : List Booking) (booking : Booking)
-    (periods rows periods' rows' demands : List ℕ) (start end : ℕ)
+    (periods : List ℕ) (rows : List (List ℕ)) (periods' : List ℕ)
+    (rows' : List (List ℕ)) (demands : List ℕ) (start end : ℕ)
     → IsMarked project bookings periods → ShowsFree project bookings periods rows
     → AreDemands project booking.activity demands
     → IsBooked periods rows periods' rows' demands start end
@@ -77,32 +75,30 @@ free_booked project bookings booking periods rows periods' rows' demands start e
           let row = booked.each i h in
           let o = row.0 in
           let p = get_or periods' i 0 in
-          let taken = subst (λ w. get_or rows' (i * w + j) 0 + share demands start end p j
-          ≡ get_or rows (o * w + j) 0) are.count (row.2 j (omega (arith, are.count))) in
+          let taken = row.2 j (omega (arith, are.count)) in
           omega (
             arith,
             taken,
             left_in project bookings periods rows o p j marked shows row.1 hj,
-            share_use project demands booking start end p j are hj es ee,
+            share_use project demands booking start end p j (are.each j hj) es ee,
             usage_push project bookings booking (j + 1) p,
           );
     }
 
 -- with the newest booking taken away, the rows have what it used
 free_undone : (project : Project) (bookings : List Booking) (booking : Booking)
-    (periods rows rows' demands : List ℕ) (start end : ℕ)
+    (periods : List ℕ) (rows rows' : List (List ℕ)) (demands : List ℕ) (start end : ℕ)
     → ShowsFree project (bookings ++ booking ∷ []) periods rows
-    → AreDemands project booking.activity demands
+    → length demands ≡ resource_count project
     → IsTaken periods rows' rows demands start end
     → ((p j : ℕ) → j < resource_count project
     → share demands start end p j ≡ use_of project (j + 1) p booking)
     → ShowsFree project bookings periods rows'
-free_undone project bookings booking periods rows rows' demands start end shows are taken same =
+free_undone project bookings booking periods rows rows' demands start end shows count taken same =
     record {
       left = λ i j h hj.
           let p = get_or periods i 0 in
-          let given = subst (λ w. get_or rows (i * w + j) 0 + share demands start end p j
-          ≡ get_or rows' (i * w + j) 0) are.count (taken.each i j h (omega (arith, are.count))) in
+          let given = taken.each i j h (omega (arith, count)) in
           omega (
             arith,
             given,
@@ -119,7 +115,7 @@ use_idle project booking k p e = grind (arith, nat_tests)
 
 -- nor does it change what the rows have
 free_idle : (project : Project) (bookings : List Booking) (booking : Booking)
-    (periods rows : List ℕ)
+    (periods : List ℕ) (rows : List (List ℕ))
     → duration project booking.activity ≡ 0 → ShowsFree project bookings periods rows
     → ShowsFree project (bookings ++ booking ∷ []) periods rows
 free_idle project bookings booking periods rows idle shows = record {
@@ -143,7 +139,8 @@ changes_same project periods periods' n same changes =
     (λ c h. (h.0, h.1, same h.0 h.1 ∙ h.2)) project.changes changes
 
 -- a booking that is made is shown
-pub shown_booked : (project : Project) (base : ℕ) (periods rows periods' rows' demands : List ℕ)
+pub shown_booked : (project : Project) (base : ℕ) (periods : List ℕ) (rows : List (List ℕ)) (periods' : List ℕ)
+    (rows' : List (List ℕ)) (demands : List ℕ)
     (entries : List Entry) (entry : Entry) (start end : ℕ)
     → IsShown project base periods rows entries → AreDemands project entry.activity demands
     → IsBooked periods rows periods' rows' demands start end → IsLonger periods periods'
@@ -171,7 +168,8 @@ shown_booked project base periods rows periods' rows' demands entries entry star
     }
 
 -- so is one that takes no time, with nothing done
-pub shown_idle : (project : Project) (base : ℕ) (periods rows : List ℕ) (entries : List Entry)
+pub shown_idle : (project : Project) (base : ℕ) (periods : List ℕ) (rows : List (List ℕ))
+    (entries : List Entry)
     (entry : Entry)
     → IsShown project base periods rows entries → duration project entry.activity ≡ 0
     → entry.nodes ≡ length periods → IsEntry project periods entry
@@ -198,7 +196,8 @@ pub record IsNewest (project : Project) (base : ℕ) (periods : List ℕ) (entri
   pub more : base ≤ nodes_with base entries
   pub fewer : nodes_with base entries ≤ length periods
 
-pub newest_entry : (project : Project) (base : ℕ) (periods rows : List ℕ) (entries : List Entry)
+pub newest_entry : (project : Project) (base : ℕ) (periods : List ℕ) (rows : List (List ℕ))
+    (entries : List Entry)
     (entry : Entry)
     → IsShown project base periods rows (entries ++ entry ∷ [])
     → IsNewest project base periods entries entry
@@ -229,14 +228,14 @@ entry_rise project periods entry is =
 
 -- what an entry's nodes share is what its booking uses
 pub entry_share : (project : Project) (periods demands : List ℕ) (entry : Entry) (p j : ℕ)
-    → IsEntry project periods entry → AreDemands project entry.activity demands
+    → IsEntry project periods entry → RunsWith project entry.activity demands
     → j < resource_count project
     → share demands (get_or periods entry.first 0) (get_or periods entry.end 0) p j
     ≡ use_of project (j + 1) p (booking_of entry)
 entry_share project periods demands entry p j is are h =
     elim (cases_lt 0 (duration project entry.activity)) [
       | inl runs ↦
-          share_use project demands (booking_of entry) _ _ p j are h (sym (is.start runs))
+          share_use project demands (booking_of entry) _ _ p j (are.each j h runs) (sym (is.start runs))
           (sym (is.finish runs))
       | inr idle ↦
           let none : duration project entry.activity ≡ 0 = omega arith in
@@ -245,18 +244,35 @@ entry_share project periods demands entry p j is are h =
           rw (same, nothing) (share_empty demands (get_or periods entry.end 0) p j)
     ]
 
--- no capacity is above the limit
-capacity_at-le : (project : Project) (k p : ℕ) → IsWithinLimits project → IsResource project k
-    → capacity_at project k p ≤ MAX_CAPACITY
-unfolding capacity_at
-capacity_at-le project k p limits is =
-    capacity_by-le project k (λ change. nat_le change.period p) limits is
+-- a booking uses what its activity demands while it runs
+use_runs : (project : Project) (booking : Booking) (k p : ℕ)
+    → booking.start ≤ p → p < finish project booking
+    → use_of project k p booking ≡ demand project booking.activity k
+use_runs project booking k p from before = grind (arith, nat_tests)
+
+-- what is packed for the newest booking is what it uses: it fits a row, since it was booked
+pub newest_runs : (project : Project) (base : ℕ) (periods : List ℕ) (rows : List (List ℕ))
+    (demands : List ℕ) (entries : List Entry) (entry : Entry)
+    → IsWithinLimits project → IsShown project base periods rows (entries ++ entry ∷ [])
+    → PacksDemands project entry.activity demands → RunsWith project entry.activity demands
+newest_runs project base periods rows demands entries entry limits shown packs = record {
+  count = packs.count;
+  each = λ j h runs.
+      let newest = newest_entry project base periods rows entries entry shown in
+      let p = get_or periods entry.first 0 in
+      let start = newest.is.start runs in
+      let left = rw (bookings_push entries entry) at (shown.free.left entry.first j newest.first h) in
+      let most = capacity_at-le project (j + 1) p limits (omega arith, omega arith) in
+      let used = usage_push project (bookings_in entries) (booking_of entry) (j + 1) p in
+      let here = use_runs project (booking_of entry) (j + 1) p (omega arith) (omega arith) in
+      packs.each j h (omega arith);
+}
 
 -- the demands of the newest booking can be given back
-pub can_take_back : (project : Project) (base : ℕ) (periods rows demands : List ℕ)
+pub can_take_back : (project : Project) (base : ℕ) (periods : List ℕ) (rows : List (List ℕ)) (demands : List ℕ)
     (entries : List Entry) (entry : Entry)
     → IsWithinLimits project → IsShown project base periods rows (entries ++ entry ∷ [])
-    → AreDemands project entry.activity demands
+    → RunsWith project entry.activity demands
     → CanTakeBack periods rows demands entry.first entry.end
 can_take_back project base periods rows demands entries entry limits shown are = record {
   each = λ i j h hj from before.
@@ -269,15 +285,14 @@ can_take_back project base periods rows demands entries entry limits shown are =
       let here = entry_share project periods demands entry p j newest are below in
       let share = share_here demands (get_or periods entry.first 0) p
       (get_or periods entry.end 0) j from before in
-      subst (λ w. get_or rows (i * w + j) 0 + get_or demands j 0 < 2 ^ 32) (sym are.count)
-      (omega arith);
+      omega arith;
 }
 
 -- with the newest booking taken away, the older ones are shown
-pub shown_undone : (project : Project) (base : ℕ) (periods rows rows' demands : List ℕ)
+pub shown_undone : (project : Project) (base : ℕ) (periods : List ℕ) (rows rows' : List (List ℕ)) (demands : List ℕ)
     (entries : List Entry) (entry : Entry) (n : ℕ)
     → IsShown project base periods rows (entries ++ entry ∷ [])
-    → AreDemands project entry.activity demands
+    → RunsWith project entry.activity demands
     → IsTaken periods rows' rows demands (get_or periods entry.first 0) (get_or periods entry.end 0)
     → n ≡ nodes_with base entries → IsShown project base (take n periods) rows' entries
 shown_undone project base periods rows rows' demands entries entry n shown are taken en =
@@ -290,7 +305,7 @@ shown_undone project base periods rows rows' demands entries entry n shown are t
     let long : length (take n periods) ≡ n = omega (arith, length-take n periods) in
     let undone = free_undone project (bookings_in entries) (booking_of entry) periods rows rows'
     demands (get_or periods entry.first 0) (get_or periods entry.end 0)
-    (rw (bookings_push entries entry) at shown.free) are taken
+    (rw (bookings_push entries entry) at shown.free) are.count taken
     (λ p j h. entry_share project periods demands entry p j newest.0 are h) in
     record {
       changes = changes_same project periods (take n periods) base
@@ -305,27 +320,21 @@ shown_undone project base periods rows rows' demands entries entry n shown are t
     }
 
 -- rows that are the same show the same
-pub shown_same : (project : Project) (base : ℕ) (periods rows rows' : List ℕ)
-    (entries : List Entry) (room width : ℕ)
-    → IsShown project base periods rows entries → length periods ≤ room
-    → length rows ≡ room * width → width ≡ resource_count project
-    → ((x : ℕ) → x < length rows → get_or rows' x 0 ≡ get_or rows x 0)
+pub shown_same : (project : Project) (base : ℕ) (periods : List ℕ) (rows rows' : List (List ℕ))
+    (entries : List Entry)
+    → IsShown project base periods rows entries
+    → ((i : ℕ) → i < length periods → row_at rows' i ≡ row_at rows i)
     → IsShown project base periods rows' entries
-shown_same project base periods rows rows' entries room width shown le long ew same = record {
+shown_same project base periods rows rows' entries shown same = record {
   changes = shown.changes;
-  free = record {
-    left = λ i j h hj.
-        let within = row_within i (length periods) room (resource_count project) (length rows) h le
-        (long ∙ ap (λ w. room * w) ew) in
-        rw (same (i * resource_count project + j) (omega arith)) (shown.free.left i j h hj);
-  };
+  free = record { left = λ i j h hj. rw (same i h) (shown.free.left i j h hj) };
   journal = shown.journal;
   nodes = shown.nodes;
   once = shown.once;
 }
 
 -- without bookings the rows have the capacities
-pub shown_empty : (project : Project) (periods rows : List ℕ)
+pub shown_empty : (project : Project) (periods : List ℕ) (rows : List (List ℕ))
     → HasChanges project periods (length periods) → ShowsCapacities project periods rows
     → IsShown project (length periods) periods rows []
 shown_empty project periods rows changes shows = record {
@@ -334,4 +343,12 @@ shown_empty project periods rows changes shows = record {
   journal = tt;
   nodes = refl;
   once = λ i j d below within. Prim.absurd (omega arith);
+}
+
+-- the nodes of another chain stay as others are taken away
+pub longer_fewer : (first periods : List ℕ) (n : ℕ) → IsLonger first periods
+    → length first ≤ n → n ≤ length periods → IsLonger first (take n periods)
+longer_fewer first periods n longer few within = record {
+  long = omega (arith, length-take n periods);
+  same = λ i h. kept_node periods n i (omega arith) ∙ longer.same i h;
 }

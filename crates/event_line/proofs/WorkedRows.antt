@@ -17,7 +17,7 @@ has_ended = refl
 -- two activities, one after the other: the second begins at the node at which the first one ends
 journal : List Entry
 journal =
-    record { activity = 2; start = 0; first = 0; end = 2; nodes = 3 }
+    record { activity = 2; start = 0; first = 1; end = 2; nodes = 3 }
     ∷ record { activity = 3; start = 3; first = 2; end = 3; nodes = 4 } ∷ []
 
 tells : bookings_in journal

@@ -1,5 +1,5 @@
 -- How the fields of a `Chain` are seen as its nodes, and what its links keep.
-use Rattle.std.specs.Prelude.{◌≡◌, ℕ, ◌<◌, ◌≤◌, List, length, slice_index, vec_capacity}
+use Rattle.std.specs.Prelude.{◌≡◌, ℕ, ◌+◌, ◌<◌, ◌≤◌, List, length, slice_index, vec_capacity}
 use Rattle.event_line.specs.declared.chain.Chain.TheInside.{Inside}
 use Rattle.event_line.specs.declared.chain.TheConstants.{FAR, MAX_NODES}
 use Rattle.event_line.specs.Chain.{Nodes, IsChain, AreNeighbours}

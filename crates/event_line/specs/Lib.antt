@@ -1,6 +1,9 @@
 pub mod Chain
 pub mod ChainView
+pub mod Lanes
 pub mod Rows
+pub mod RowsView
+pub mod DemandsView
 pub mod Shown
 pub mod Timeline
 pub mod Journal

@@ -2,10 +2,11 @@
 use Rattle.std.specs.Prelude.{◌≡◌, ◌≢◌, ℕ, ◌+◌, ◌*◌, ◌≤◌, List, [], length, AllPairs, vec_capacity}
 use Rattle.rc_instance.specs.Project.{Project, activity_count, resource_count}
 use Rattle.rc_instance.specs.Calendar.{IsWithinLimits}
+use Rattle.event_line.specs.Chain.{IsLonger}
 use Rattle.event_line.specs.declared.line.Line.TheInside.{Inside}
 use Rattle.event_line.specs.declared.entry.Entry.{Entry}
 use Rattle.event_line.specs.Journal.{bookings_in, nodes_with, IsJournal}
-use Rattle.event_line.specs.Shown.{ShowsFree, HasChanges}
+use Rattle.event_line.specs.Shown.{ShowsFree, ShowsDemands, HasChanges}
 use Rattle.event_line.specs.Timeline.{Timeline}
 
 -- the instance, and the bookings that the journal tells
@@ -17,7 +18,8 @@ timeline_of inside = record {
 
 -- the nodes show the project and what the journal tells; the first ones, as many as a line without
 -- bookings has, stand at the changes
-pub record IsShown (project : Project) (base : ℕ) (periods rows : List ℕ) (entries : List Entry) : Type 0 where
+pub record IsShown (project : Project) (base : ℕ) (periods : List ℕ) (rows : List (List ℕ))
+    (entries : List Entry) : Type 0 where
   pub changes : HasChanges project periods base
   pub free : ShowsFree project (bookings_in entries) periods rows
   pub journal : IsJournal project periods base entries
@@ -27,14 +29,17 @@ pub record IsShown (project : Project) (base : ℕ) (periods rows : List ℕ) (e
 -- what the fields of every line keep
 pub record KeepsNodes (inside : Inside) : Type 0 where
   pub limits : IsWithinLimits inside.instance.now
-  pub width : inside.axis.width ≡ resource_count inside.instance.now
-  pub base_width : inside.base.width ≡ resource_count inside.instance.now
+  pub width : inside.axis.free.width ≡ resource_count inside.instance.now
+  pub base_width : inside.base.free.width ≡ resource_count inside.instance.now
   pub room : length inside.base.chain.periods + 2 * activity_count inside.instance.now
       ≤ inside.axis.chain.room
   pub base_room : inside.base.chain.room ≤ inside.axis.chain.room
   pub reserved : activity_count inside.instance.now ≤ vec_capacity inside.entries
   pub hints : length inside.ends.items ≡ activity_count inside.instance.now
+  pub demands_count : length inside.demands.items ≡ activity_count inside.instance.now
+  pub demands : ShowsDemands inside.instance.now inside.demands.items
+  pub longer : IsLonger inside.base.chain.periods inside.axis.chain.periods
   pub base : IsShown inside.instance.now (length inside.base.chain.periods)
-      inside.base.chain.periods inside.base.free.items []
+      inside.base.chain.periods inside.base.free.rows []
   pub shown : IsShown inside.instance.now (length inside.base.chain.periods)
-      inside.axis.chain.periods inside.axis.free.items inside.entries.items
+      inside.axis.chain.periods inside.axis.free.rows inside.entries.items

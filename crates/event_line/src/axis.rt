@@ -1,13 +1,14 @@
-ghost use Rattle.std.specs.Prelude.{◌≡◌, ◌≢◌, ℕ, ◌+◌, ◌-◌, ◌*◌, ◌<◌, ◌≤◌, ◌∷◌, [], length, take, slice_index, IfOk};
+ghost use Rattle.std.specs.Prelude.{◌≡◌, ◌≢◌, ℕ, ◌+◌, ◌-◌, ◌<◌, ◌≤◌, ◌∷◌, [], length, take, slice_index, IfOk};
 ghost use Rattle.rc_instance.specs.declared.limits.TheConstants.{MAX_RESOURCES};
 ghost use Rattle.event_line.specs.declared.chain.TheConstants.{FAR, MAX_NODES};
 ghost use Rattle.event_line.specs.Chain.{IsChain, StandsFor, IsLonger};
-ghost use Rattle.event_line.specs.Rows.{HasRoomFrom, HasRoomBefore, CanTakeBack, IsTaken, IsRefined, IsBooked};
+ghost use Rattle.event_line.specs.Rows.{HasRoomFrom, HasRoomBefore, CanTakeBack, IsTaken, IsRefined, IsBooked, row_at};
 ghost use Rattle.event_line.specs.Journal.{IsMade};
 
-use crate::chain::{Chain, HEAD, copy_front};
+use crate::chain::{Chain, HEAD};
+use crate::demands::Demands;
 use crate::entry::Entry;
-use crate::rows::{copy_row, give, take};
+use crate::rows::Rows;
 use crate::search::Span;
 use rc_instance::Memory;
 use std::alloc::Global;
@@ -16,9 +17,8 @@ use std::alloc::Global;
 #[derive(Drop)]
 pub(crate) struct Axis {
     pub(crate) chain: Chain,
-    pub(crate) free: Vec<u32>,
-    pub(crate) width: usize,
-    ghost shape: { length free.items ≡ chain.room * width },
+    pub(crate) free: Rows,
+    ghost shape: { length free.rows ≡ chain.room },
     ghost nodes: { length chain.periods ≤ chain.room },
 }
 
@@ -27,13 +27,12 @@ impl Axis {
     pub(crate) fn new(alloc: Global, room: u32, width: u32) -> Result<Axis, Memory>
         requires room { (2 ≤ room) × (room ≤ MAX_NODES) }
         requires width { width ≤ MAX_RESOURCES }
-        ensures { IfOk result (λ axis. (axis.chain ≡ record { periods = 0 ∷ FAR ∷ []; room = room })
-            × (axis.width ≡ width)) }
+        ensures { IfOk result (λ axis. (axis.chain ≡ record { periods = FAR ∷ 0 ∷ []; room = room })
+            × (axis.free.width ≡ width)) }
     {
         Ok(Axis {
             chain: Chain::new(alloc, room)?,
-            free: vec![in alloc; 0; room as usize * width as usize]?,
-            width: width as usize,
+            free: Rows::new(alloc, room, width)?,
         })
     }
 
@@ -41,21 +40,21 @@ impl Axis {
     fn split(&mut self, at: u32, period: u32) -> u32
         requires stands { StandsFor self.old.chain.periods at period }
         requires room { length self.old.chain.periods < self.old.chain.room }
-        ensures refined { IsRefined self.old.width self.old.chain.periods self.old.free.items
-            self.new.chain.periods self.new.free.items }
+        ensures refined { IsRefined self.old.chain.periods self.old.free.rows
+            self.new.chain.periods self.new.free.rows }
         ensures few { length self.new.chain.periods ≤ length self.old.chain.periods + 1 }
         ensures inside { result < length self.new.chain.periods }
         ensures at { slice_index self.new.chain.periods result ≡ period }
         ensures others { (i : ℕ) → i < length self.new.chain.periods → i ≢ result
             → i < length self.old.chain.periods }
         ensures room { self.new.chain.room ≡ self.old.chain.room }
-        ensures width { self.new.width ≡ self.old.width }
+        ensures width { self.new.free.width ≡ self.old.free.width }
     {
         if self.chain.period(at) == period {
             return at;
         }
         let node = self.chain.insert(at, period);
-        copy_row(&mut self.free, at, node, self.width);
+        self.free.copy(at, node);
         node
     }
 
@@ -64,15 +63,15 @@ impl Axis {
         requires last { StandsFor self.old.chain.periods span.last (end - 1) }
         requires end { (0 < end) × (end < FAR) }
         requires room { length self.old.chain.periods < self.old.chain.room }
-        ensures refined { IsRefined self.old.width self.old.chain.periods self.old.free.items
-            self.new.chain.periods self.new.free.items }
+        ensures refined { IsRefined self.old.chain.periods self.old.free.rows
+            self.new.chain.periods self.new.free.rows }
         ensures few { length self.new.chain.periods ≤ length self.old.chain.periods + 1 }
         ensures inside { result < length self.new.chain.periods }
         ensures at { slice_index self.new.chain.periods result ≡ end }
         ensures others { (i : ℕ) → i < length self.new.chain.periods → i ≢ result
             → i < length self.old.chain.periods }
         ensures room { self.new.chain.room ≡ self.old.chain.room }
-        ensures width { self.new.width ≡ self.old.width }
+        ensures width { self.new.free.width ≡ self.old.free.width }
     {
         let next = self.chain.next(span.last);
         if self.chain.period(next) == end {
@@ -94,38 +93,42 @@ impl Axis {
     }
 
     /// Takes the demands from the start of a span on for so many periods, and tells what was done.
+    #[inline(always)]
     pub(crate) fn book(
         &mut self,
         activity: u32,
         duration: u32,
         span: Span,
-        demands: &[u32],
+        demands: &Demands,
     ) -> Entry
-        requires width { length demands.now ≡ self.old.width }
+        requires width { length demands.now ≡ self.old.free.width }
         requires duration { 0 < duration }
         requires end { span.start + duration < FAR }
         requires first { StandsFor self.old.chain.periods span.first span.start }
         requires last { StandsFor self.old.chain.periods span.last (span.start + duration - 1) }
         requires nodes { length self.old.chain.periods + 2 ≤ self.old.chain.room }
-        requires room { HasRoomFrom self.old.chain.periods self.old.free.items demands.now
+        requires room { HasRoomFrom self.old.chain.periods self.old.free.rows demands.now
             span.first span.last }
         ensures longer { IsLonger self.old.chain.periods self.new.chain.periods }
         ensures few { length self.new.chain.periods ≤ length self.old.chain.periods + 2 }
-        ensures booked { IsBooked self.old.chain.periods self.old.free.items
-            self.new.chain.periods self.new.free.items demands.now span.start
+        ensures booked { IsBooked self.old.chain.periods self.old.free.rows
+            self.new.chain.periods self.new.free.rows demands.now span.start
             (span.start + duration) }
         ensures entry { IsMade self.new.chain.periods activity span.start duration result }
         ensures room { self.new.chain.room ≡ self.old.chain.room }
-        ensures width { self.new.width ≡ self.old.width }
+        ensures width { self.new.free.width ≡ self.old.free.width }
     {
         let (first, end) = self.split_both(span, span.start + duration);
-        self.take(first, end, demands);
+        let nodes = self.chain.len();
+        // A copy that no write into the rows can change, so that it stays in registers.
+        let own = demands.copied();
+        self.take(first, end, &own);
         Entry {
             activity,
             start: span.start,
             first,
             end,
-            nodes: self.chain.len(),
+            nodes,
         }
     }
 
@@ -135,15 +138,15 @@ impl Axis {
         requires last { StandsFor self.old.chain.periods span.last (end - 1) }
         requires end { (span.start < end) × (end < FAR) }
         requires room { length self.old.chain.periods + 2 ≤ self.old.chain.room }
-        ensures refined { IsRefined self.old.width self.old.chain.periods self.old.free.items
-            self.new.chain.periods self.new.free.items }
+        ensures refined { IsRefined self.old.chain.periods self.old.free.rows
+            self.new.chain.periods self.new.free.rows }
         ensures few { length self.new.chain.periods ≤ length self.old.chain.periods + 2 }
         ensures inside { (result.0 < length self.new.chain.periods)
             × (result.1 < length self.new.chain.periods) }
         ensures first { slice_index self.new.chain.periods result.0 ≡ span.start }
         ensures end { slice_index self.new.chain.periods result.1 ≡ end }
         ensures room { self.new.chain.room ≡ self.old.chain.room }
-        ensures width { self.new.width ≡ self.old.width }
+        ensures width { self.new.free.width ≡ self.old.free.width }
     {
         let end_node = self.split_end(span, end);
         let first_node = self.split(span.first, span.start);
@@ -151,47 +154,47 @@ impl Axis {
     }
 
     // Takes the demands at each node from the first one up to the end.
-    fn take(&mut self, first: u32, end: u32, demands: &[u32])
-        requires width { length demands.now ≡ self.old.width }
+    fn take(&mut self, first: u32, end: u32, demands: &Demands)
+        requires chain { IsChain self.old.chain.periods }
+        requires width { length demands.now ≡ self.old.free.width }
         requires first { first < length self.old.chain.periods }
         requires end { end < length self.old.chain.periods }
         requires rise { slice_index self.old.chain.periods first
             ≤ slice_index self.old.chain.periods end }
-        requires room { HasRoomBefore self.old.chain.periods self.old.free.items demands.now
+        requires room { HasRoomBefore self.old.chain.periods self.old.free.rows demands.now
             first end }
-        ensures taken { IsTaken self.old.chain.periods self.old.free.items self.new.free.items
+        ensures taken { IsTaken self.old.chain.periods self.old.free.rows self.new.free.rows
             demands.now (slice_index self.old.chain.periods first)
             (slice_index self.old.chain.periods end) }
         ensures chain { self.new.chain ≡ self.old.chain }
-        ensures width { self.new.width ≡ self.old.width }
+        ensures width { self.new.free.width ≡ self.old.free.width }
     {
-        let until = self.chain.period(end);
         let mut node = first;
-        while self.chain.period(node) < until {
-            take(&mut self.free, node, demands);
+        while node != end {
+            self.free.take(node, demands);
             node = self.chain.next(node);
         }
     }
 
     /// Gives the demands back at each node from the first one up to the end.
-    pub(crate) fn give(&mut self, first: u32, end: u32, demands: &[u32])
-        requires width { length demands.now ≡ self.old.width }
+    pub(crate) fn give(&mut self, first: u32, end: u32, demands: &Demands)
+        requires width { length demands.now ≡ self.old.free.width }
         requires first { first < length self.old.chain.periods }
         requires end { end < length self.old.chain.periods }
         requires rise { slice_index self.old.chain.periods first
             ≤ slice_index self.old.chain.periods end }
-        requires fits { CanTakeBack self.old.chain.periods self.old.free.items demands.now
+        requires fits { CanTakeBack self.old.chain.periods self.old.free.rows demands.now
             first end }
-        ensures given { IsTaken self.old.chain.periods self.new.free.items self.old.free.items
+        ensures given { IsTaken self.old.chain.periods self.new.free.rows self.old.free.rows
             demands.now (slice_index self.old.chain.periods first)
             (slice_index self.old.chain.periods end) }
         ensures chain { self.new.chain ≡ self.old.chain }
-        ensures width { self.new.width ≡ self.old.width }
+        ensures width { self.new.free.width ≡ self.old.free.width }
     {
         let until = self.chain.period(end);
         let mut node = first;
         while self.chain.period(node) < until {
-            give(&mut self.free, node, demands);
+            self.free.give(node, demands);
             node = self.chain.next(node);
         }
     }
@@ -202,8 +205,7 @@ impl Axis {
         ensures chain { self.new.chain ≡ record self.old.chain {
           periods = take nodes self.old.chain.periods;
         } }
-        ensures free { self.new.free.items ≡ self.old.free.items }
-        ensures width { self.new.width ≡ self.old.width }
+        ensures free { self.new.free ≡ self.old.free }
     {
         while self.chain.len() > nodes {
             self.chain.remove_newest();
@@ -211,15 +213,30 @@ impl Axis {
     }
 
     /// Makes the nodes and what is free at them those of another axis.
-    pub(crate) fn restore(&mut self, other: &Axis)
+    pub(crate) fn copy(&mut self, other: &Axis)
         requires room { other.now.chain.room ≤ self.old.chain.room }
-        requires width { other.now.width ≡ self.old.width }
+        requires width { other.now.free.width ≡ self.old.free.width }
         ensures chain { self.new.chain ≡ record self.old.chain { periods = other.now.chain.periods } }
-        ensures free { (i : ℕ) → i < length other.now.free.items
-            → slice_index self.new.free.items i ≡ slice_index other.now.free.items i }
-        ensures width { self.new.width ≡ self.old.width }
+        ensures free { (i : ℕ) → i < length other.now.chain.periods
+            → row_at self.new.free.rows i ≡ row_at other.now.free.rows i }
+        ensures width { self.new.free.width ≡ self.old.free.width }
     {
         self.chain.restore(&other.chain);
-        copy_front(&mut self.free, &other.free);
+        self.free.restore(&other.free, other.chain.len() as usize);
+    }
+
+    /// The same, of an axis whose nodes are the first ones here.
+    pub(crate) fn restore(&mut self, other: &Axis)
+        requires room { other.now.chain.room ≤ self.old.chain.room }
+        requires longer { IsLonger other.now.chain.periods self.old.chain.periods }
+        requires width { other.now.free.width ≡ self.old.free.width }
+        ensures chain { self.new.chain ≡ record self.old.chain { periods = other.now.chain.periods } }
+        ensures free { (i : ℕ) → i < length other.now.chain.periods
+            → row_at self.new.free.rows i ≡ row_at other.now.free.rows i }
+        ensures width { self.new.free.width ≡ self.old.free.width }
+    {
+        let rows = other.chain.len() as usize;
+        self.chain.cut_back(&other.chain);
+        self.free.restore(&other.free, rows);
     }
 }

@@ -6,11 +6,11 @@ use rc_instance::limits::{MAX_ACTIVITIES, MAX_CHANGES};
 use std::alloc::Global;
 use std::marker::Model;
 
-/// The node at period 0.
-pub(crate) const HEAD: u32 = 0;
-
 /// The node after all others.
-pub(crate) const TAIL: u32 = 1;
+pub(crate) const TAIL: u32 = 0;
+
+/// The node at period 0.
+pub(crate) const HEAD: u32 = 1;
 
 /// The period of the tail: no activity runs so late.
 pub(crate) const FAR: u32 = u32::MAX;
@@ -46,11 +46,11 @@ impl Chain {
     pub(crate) fn new(alloc: Global, room: u32) -> Result<Chain, Memory>
         requires { (2 ≤ room) × (room ≤ MAX_NODES) }
         ensures { IfOk result (λ chain.
-            chain ≡ record { periods = 0 ∷ FAR ∷ []; room = room }) }
+            chain ≡ record { periods = FAR ∷ 0 ∷ []; room = room }) }
     {
         let mut periods = Vec::with_capacity(alloc, room as usize)?;
-        periods.push_reserved(0);
         periods.push_reserved(FAR);
+        periods.push_reserved(0);
         Ok(Chain {
             periods,
             next: vec![in alloc; TAIL; room as usize]?,
@@ -189,10 +189,22 @@ impl Chain {
         copy_front(&mut self.next, &other.next);
         copy_front(&mut self.previous, &other.previous);
     }
+
+    /// The same, of a chain whose nodes are the first ones here: where there are no others, nothing
+    /// is to be done.
+    pub(crate) fn cut_back(&mut self, other: &Chain)
+        requires room { other.now.room ≤ self.old.room }
+        requires longer { IsLonger other.now.periods self.old.periods }
+        ensures { self.new ≡ record self.old { periods = other.now.periods } }
+    {
+        if self.len() > other.len() {
+            self.restore(other);
+        }
+    }
 }
 
 // Copies a list over the front of another one.
-pub(crate) fn copy_front(to: &mut [u32], from: &[u32])
+fn copy_front(to: &mut [u32], from: &[u32])
     requires { length from.now ≤ length to.old }
     ensures { (i : ℕ) → i < length from.now → slice_index to.new i ≡ slice_index from.now i }
 {

@@ -22,7 +22,9 @@
 mod axis;
 mod capacities;
 mod chain;
+mod demands;
 mod entry;
+mod lanes;
 mod line;
 mod rows;
 mod search;

@@ -1,11 +1,10 @@
-ghost use Rattle.std.specs.Prelude.{◌≡◌, ℕ, max, ◌+◌, ◌-◌, ◌<◌, ◌≤◌, [], ◌∷◌, ◌++◌, length, take, slice_get, Some, IfOk};
+ghost use Rattle.std.specs.Prelude.{◌≡◌, ◌-◌, ◌<◌, ◌≤◌, [], length, take, slice_get, Some, IfOk};
 ghost use Rattle.rc_instance.specs.Project.{IsActivity, activity_count, duration};
-ghost use Rattle.rc_instance.specs.Usage.{Fits, IsLeastFrom, IsLastBy, last_finish, rest_time};
-ghost use Rattle.event_line.specs.Timeline.{IsUnbooked, FitsAtRest};
-ghost use Rattle.rc_instance.specs.declared.limits.TheConstants.{MAX_HORIZON};
+ghost use Rattle.event_line.specs.Timeline.{IsUnbooked, CanPlaceFrom, CanPlaceBy, IsPlacedFrom, IsPlacedBy, with_booking};
 
 use crate::axis::Axis;
 use crate::chain::HEAD;
+use crate::demands::{Demands, pack_all};
 use crate::entry::{Entry, nodes_with};
 use rc_instance::{Instance, Memory};
 use std::alloc::Global;
@@ -20,6 +19,7 @@ pub struct Line<'i> {
     instance: &'i Instance,
     axis: Axis,
     base: Axis,
+    demands: Vec<Demands>,
     entries: Vec<Entry>,
     ends: Vec<u32>,
 }
@@ -45,11 +45,12 @@ impl<'i> Line<'i> {
         let base = Axis::of(alloc, instance)?;
         let room = 2 + instance.change_count() + 2 * instance.count();
         let mut axis = Axis::new(alloc, room, instance.resources())?;
-        axis.restore(&base);
+        axis.copy(&base);
         Ok(Line {
             instance,
             axis,
             base,
+            demands: pack_all(alloc, instance)?,
             entries: Vec::with_capacity(alloc, instance.count() as usize)?,
             ends: vec![in alloc; HEAD; instance.count() as usize]?,
         })
@@ -83,33 +84,19 @@ impl<'i> Line<'i> {
 
     /// Books an activity at its least start from a period on, and answers this start.
     pub fn place(&mut self, activity: u32, from: u32) -> u32
-        requires activity { IsActivity self.old.project activity }
-        requires unbooked { IsUnbooked self.old.bookings activity }
-        requires fits { FitsAtRest self.old.project activity }
-        requires from { from ≤ MAX_HORIZON }
-        requires ended { last_finish self.old.project self.old.bookings ≤ MAX_HORIZON }
-        ensures least { IsLeastFrom self.old.project self.old.bookings activity from result }
-        ensures booked { self.new ≡ record self.old {
-          bookings = self.old.bookings ++ record { activity = activity; start = result } ∷ [];
-        } }
-        ensures within { result ≤ max from (rest_time self.old.project self.old.bookings) }
+        requires { CanPlaceFrom self.old activity from }
+        ensures { IsPlacedFrom self.old self.new activity from result }
     {
         let near = self.newest_node();
         self.place_from(activity, from, near)
     }
 
     /// The same. The search begins at the finish of an activity that is near, if it is booked.
+    // Always inlined, as the steps that call it.
+    #[inline(always)]
     pub fn place_near(&mut self, activity: u32, from: u32, near: u32) -> u32
-        requires activity { IsActivity self.old.project activity }
-        requires unbooked { IsUnbooked self.old.bookings activity }
-        requires fits { FitsAtRest self.old.project activity }
-        requires from { from ≤ MAX_HORIZON }
-        requires ended { last_finish self.old.project self.old.bookings ≤ MAX_HORIZON }
-        ensures least { IsLeastFrom self.old.project self.old.bookings activity from result }
-        ensures booked { self.new ≡ record self.old {
-          bookings = self.old.bookings ++ record { activity = activity; start = result } ∷ [];
-        } }
-        ensures within { result ≤ max from (rest_time self.old.project self.old.bookings) }
+        requires { CanPlaceFrom self.old activity from }
+        ensures { IsPlacedFrom self.old self.new activity from result }
     {
         let near = self.end_node(near);
         self.place_from(activity, from, near)
@@ -117,16 +104,8 @@ impl<'i> Line<'i> {
 
     // The same, from any number of a node on: one that is no node counts as the head.
     fn place_from(&mut self, activity: u32, from: u32, near: u32) -> u32
-        requires activity { IsActivity self.old.project activity }
-        requires unbooked { IsUnbooked self.old.bookings activity }
-        requires fits { FitsAtRest self.old.project activity }
-        requires from { from ≤ MAX_HORIZON }
-        requires ended { last_finish self.old.project self.old.bookings ≤ MAX_HORIZON }
-        ensures least { IsLeastFrom self.old.project self.old.bookings activity from result }
-        ensures booked { self.new ≡ record self.old {
-          bookings = self.old.bookings ++ record { activity = activity; start = result } ∷ [];
-        } }
-        ensures within { result ≤ max from (rest_time self.old.project self.old.bookings) }
+        requires { CanPlaceFrom self.old activity from }
+        ensures { IsPlacedFrom self.old self.new activity from result }
     {
         let duration = self.instance.duration(activity);
         if duration == 0 {
@@ -134,7 +113,7 @@ impl<'i> Line<'i> {
             return from;
         }
         let near = self.axis.node_or_head(near);
-        let demands = self.instance.demands(activity);
+        let demands = &self.demands[activity as usize - 1];
         let span = self.axis.least_start(demands, duration, from, near);
         let entry = self.axis.book(activity, duration, span, demands);
         self.ends[activity as usize - 1] = entry.end;
@@ -144,15 +123,8 @@ impl<'i> Line<'i> {
 
     /// Books an activity at its latest start that ends it by a period, and answers this start.
     pub fn place_last(&mut self, activity: u32, by: u32) -> u32
-        requires activity { IsActivity self.old.project activity }
-        requires unbooked { IsUnbooked self.old.bookings activity }
-        requires by { by ≤ MAX_HORIZON }
-        requires exists { (t : ℕ) × (t + duration self.old.project activity ≤ by)
-            × Fits self.old.project self.old.bookings activity t }
-        ensures last { IsLastBy self.old.project self.old.bookings activity by result }
-        ensures booked { self.new ≡ record self.old {
-          bookings = self.old.bookings ++ record { activity = activity; start = result } ∷ [];
-        } }
+        requires { CanPlaceBy self.old activity by }
+        ensures { IsPlacedBy self.old self.new activity by result }
     {
         let duration = self.instance.duration(activity);
         let near = self.newest_node();
@@ -161,7 +133,7 @@ impl<'i> Line<'i> {
             return by;
         }
         let near = self.axis.node_or_head(near);
-        let demands = self.instance.demands(activity);
+        let demands = &self.demands[activity as usize - 1];
         let span = self.axis.latest_start(demands, duration, by, near);
         let entry = self.axis.book(activity, duration, span, demands);
         self.ends[activity as usize - 1] = entry.end;
@@ -177,7 +149,7 @@ impl<'i> Line<'i> {
         } }
     {
         let newest = self.entries.take_last();
-        let demands = self.instance.demands(newest.activity);
+        let demands = &self.demands[newest.activity as usize - 1];
         self.axis.give(newest.first, newest.end, demands);
         let nodes = nodes_with(self.base.chain.len(), &self.entries);
         self.axis.cut(nodes);
@@ -196,9 +168,7 @@ impl<'i> Line<'i> {
         requires activity { IsActivity self.old.project activity }
         requires unbooked { IsUnbooked self.old.bookings activity }
         requires idle { duration self.old.project activity ≡ 0 }
-        ensures { self.new ≡ record self.old {
-          bookings = self.old.bookings ++ record { activity = activity; start = start } ∷ [];
-        } }
+        ensures { self.new ≡ with_booking self.old activity start }
     {
         let node = self.axis.node_or_head(near);
         self.ends[activity as usize - 1] = node;

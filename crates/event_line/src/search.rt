@@ -4,7 +4,7 @@ ghost use Rattle.event_line.specs.Rows.{HasRoom, IsFull, HasRoomFor, HasRoomFrom
 
 use crate::axis::Axis;
 use crate::chain::FAR;
-use crate::rows::has_room;
+use crate::demands::Demands;
 
 /// Where an activity can run: its start, the node that stands for it, and the node that stands for
 /// its last period.
@@ -16,76 +16,59 @@ pub(crate) struct Span {
 }
 
 impl Axis {
-    // The node that stands for the last period before the end, if each node from the first one up to
-    // it has room for the demands, and else the first one that has none.
-    fn room_up_to(&self, first: u32, end: u32, demands: &[u32]) -> Result<u32, u32>
-        requires width { length demands.now ≡ self.now.width }
-        requires first { first < length self.now.chain.periods }
-        requires before { slice_index self.now.chain.periods first < end }
-        requires end { end < FAR }
-        ensures last { IfOk result (λ last. StandsFor self.now.chain.periods last (end - 1)) }
-        ensures room { IfOk result
-            (HasRoomFrom self.now.chain.periods self.now.free.items demands.now first) }
-        ensures full { IfErr result (λ node. IsFull self.now.chain.periods self.now.free.items
-            demands.now node) }
-        ensures from { IfErr result (λ node. slice_index self.now.chain.periods first
-            ≤ slice_index self.now.chain.periods node) }
-        ensures before { IfErr result (λ node. slice_index self.now.chain.periods node < end) }
-    {
-        let mut node = first;
-        while has_room(&self.free, node, demands) {
-            let next = self.chain.next(node);
-            if self.chain.period(next) >= end {
-                return Ok(node);
-            }
-            node = next;
-        }
-        Err(node)
-    }
-
     /// The least start from the floor on at which the demands have room for so many periods. The
     /// search begins at a node that is near.
-    pub(crate) fn least_start(&self, demands: &[u32], duration: u32, from: u32, near: u32) -> Span
-        requires width { length demands.now ≡ self.now.width }
+    pub(crate) fn least_start(&self, demands: &Demands, duration: u32, from: u32, near: u32) -> Span
+        requires width { length demands.now ≡ self.now.free.width }
         requires duration { 0 < duration }
         requires near { near < length self.now.chain.periods }
         requires exists { (t : ℕ) × (from ≤ t) × (t + duration < FAR)
-            × HasRoomFor self.now.chain.periods self.now.free.items demands.now t duration }
+            × HasRoomFor self.now.chain.periods self.now.free.rows demands.now t duration }
         ensures after { from ≤ result.start }
         ensures first { StandsFor self.now.chain.periods result.first result.start }
         ensures last { StandsFor self.now.chain.periods result.last (result.start + duration - 1) }
-        ensures room { HasRoomFrom self.now.chain.periods self.now.free.items demands.now
+        ensures room { HasRoomFrom self.now.chain.periods self.now.free.rows demands.now
             result.first result.last }
         ensures least { (t : ℕ) → from ≤ t
-            → HasRoomFor self.now.chain.periods self.now.free.items demands.now t duration
+            → HasRoomFor self.now.chain.periods self.now.free.rows demands.now t duration
             → result.start ≤ t }
     {
         let mut start = from;
         let mut first = self.chain.node_at(near, from);
+        let mut node = first;
         loop {
-            match self.room_up_to(first, start + duration, demands) {
-                Ok(last) => return Span { start, first, last },
-                Err(full) => {
-                    // No start before the next node has room: it runs at the full one.
-                    first = self.chain.next(full);
-                    start = self.chain.period(first);
-                }
+            let full = !self.free.has_room(node, demands);
+            let next = self.chain.next(node);
+            let period = self.chain.period(next);
+            // No start before the next node has room where this one is full: it runs at it. Kept flat,
+            // so that nothing but the exit is a branch.
+            if full {
+                first = next;
+                start = period;
             }
+            if start + duration <= period {
+                return Span {
+                    start,
+                    first,
+                    last: node,
+                };
+            }
+            node = next;
         }
     }
 
     // The node that stands for the start, if each node from it up to the last one has room for the
     // demands, and else the last one that has none.
-    fn room_down_to(&self, last: u32, start: u32, demands: &[u32]) -> Result<u32, u32>
-        requires width { length demands.now ≡ self.now.width }
+    fn room_down_to(&self, last: u32, start: u32, demands: &Demands) -> Result<u32, u32>
+        requires width { length demands.now ≡ self.now.free.width }
         requires last { last < length self.now.chain.periods }
         requires latest { (i : ℕ) → i < length self.now.chain.periods
             → slice_index self.now.chain.periods i ≤ start
             → slice_index self.now.chain.periods i ≤ slice_index self.now.chain.periods last }
         ensures first { IfOk result (λ first. StandsFor self.now.chain.periods first start) }
         ensures room { IfOk result (λ first. HasRoomFrom self.now.chain.periods
-            self.now.free.items demands.now first last) }
-        ensures full { IfErr result (λ node. IsFull self.now.chain.periods self.now.free.items
+            self.now.free.rows demands.now first last) }
+        ensures full { IfErr result (λ node. IsFull self.now.chain.periods self.now.free.rows
             demands.now node) }
         ensures up_to { IfErr result (λ node. slice_index self.now.chain.periods node
             ≤ slice_index self.now.chain.periods last) }
@@ -94,7 +77,7 @@ impl Axis {
             → slice_index self.now.chain.periods i ≤ slice_index self.now.chain.periods node) }
     {
         let mut node = last;
-        while has_room(&self.free, node, demands) {
+        while self.free.has_room(node, demands) {
             if self.chain.period(node) <= start {
                 return Ok(node);
             }
@@ -105,20 +88,20 @@ impl Axis {
 
     /// The latest start at which the demands have room for so many periods and these end by the
     /// given end. The search begins at a node that is near.
-    pub(crate) fn latest_start(&self, demands: &[u32], duration: u32, by: u32, near: u32) -> Span
-        requires width { length demands.now ≡ self.now.width }
+    pub(crate) fn latest_start(&self, demands: &Demands, duration: u32, by: u32, near: u32) -> Span
+        requires width { length demands.now ≡ self.now.free.width }
         requires duration { 0 < duration }
         requires by { by < FAR }
         requires near { near < length self.now.chain.periods }
         requires exists { (t : ℕ) × (t + duration ≤ by)
-            × HasRoomFor self.now.chain.periods self.now.free.items demands.now t duration }
+            × HasRoomFor self.now.chain.periods self.now.free.rows demands.now t duration }
         ensures ends { result.start + duration ≤ by }
         ensures first { StandsFor self.now.chain.periods result.first result.start }
         ensures last { StandsFor self.now.chain.periods result.last (result.start + duration - 1) }
-        ensures room { HasRoomFrom self.now.chain.periods self.now.free.items demands.now
+        ensures room { HasRoomFrom self.now.chain.periods self.now.free.rows demands.now
             result.first result.last }
         ensures latest { (t : ℕ) → t + duration ≤ by
-            → HasRoomFor self.now.chain.periods self.now.free.items demands.now t duration
+            → HasRoomFor self.now.chain.periods self.now.free.rows demands.now t duration
             → t ≤ result.start }
     {
         let mut end = by;

@@ -362,3 +362,13 @@ fn bookings_are_told(rt: HostRuntime) -> Result<(), Fail> {
     }
     Ok(())
 }
+
+// A line may be given to another thread.
+fn is_send<T: Send>(_: &T) {}
+
+#[test]
+fn a_line_may_be_sent(rt: HostRuntime) -> Result<(), Fail> {
+    let instance = six(rt.alloc())?;
+    is_send(&Line::new(rt.alloc(), &instance)?);
+    Ok(())
+}

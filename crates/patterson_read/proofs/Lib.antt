@@ -1,3 +1,4 @@
+pub mod CalendarLaws
 pub mod Activities
 pub mod KindLaws
 pub mod ListLaws

@@ -8,19 +8,21 @@ use Rattle.std.proofs.lemmas.List.Folds.{flat_map-map}
 use Rattle.std.proofs.lemmas.List.Elements.{All-nil, All-cons, All-head, All-tail, All-append, All-map}
 use Rattle.std.proofs.lemmas.List.Sums.{sum_by-cons, sum_by_push, sum-map}
 use Rattle.std.proofs.lemmas.List.FromFn.{length-map-range_with_len}
-use Rattle.rc_instance.specs.declared.limits.TheConstants.{MAX_ACTIVITIES, MAX_CAPACITY, MAX_DURATION_SUM}
+use Rattle.rc_instance.specs.declared.limits.TheConstants.{MAX_ACTIVITIES, MAX_DURATION_SUM}
 use Rattle.rc_instance.specs.Lists.{numbers}
 use Rattle.rc_instance.specs.Project.{Project, activity_count, resource_count, duration, demand, successors_of, IsActivity}
 use Rattle.rc_instance.specs.Calendar.{AreSuccessors, IsWithinLimits}
 use Rattle.rc_instance.proofs.LimitLaws.{rising_length, successors_are as successors_are_numbers}
-use Rattle.rc_edge.specs.Tokens.{is_white, Token, tokens_of}
+use Rattle.rc_edge.specs.Tokens.{is_white, Token}
+use Rattle.rc_edge.specs.Source.{next_capacity, demand_due, successor_due}
 use Rattle.rc_edge.proofs.WrittenLaws.{texts, breaks, HasWords, words-none, words-white, words-word, decimal_is_word}
 use Rattle.rc_edge.proofs.NumberedLaws.{numbers_are, AreSmall, small_demands, small_successors, duration-le-sum}
-use Rattle.rc_edge.proofs.ReadBackLaws.{HaveTexts, Reads, ReadsEach, more_reads, more_numbers_read, number_is_due, activity_count_accepted, resource_count_accepted, capacity_accepted, duration_accepted, successor_accepted}
+use Rattle.rc_edge.proofs.ReadBackLaws.{Reads, ReadsEach, more_reads, more_numbers_read, number_is_due, activity_count_accepted, resource_count_accepted}
+use Rattle.rc_edge.proofs.SourceLaws.{ReadsNumbers, duration_reads, each_capacity, each_demand, each_successor}
 use Rattle.rc_edge.proofs.RemadeLaws.{durations_are, demands_are, successors_are, made_again}
-use Rattle.patterson_read.specs.declared.number.Head.{Head}
-use Rattle.patterson_read.specs.Rcp as rcp
-use Rattle.patterson_read.specs.Rcp.{Activity, next_capacity, next_activity, nothing, text_due, read_instance, project_of}
+use Rattle.patterson_read.specs.declared.head.Head.{Head}
+use Rattle.patterson_read.specs.Left.{Left, whole, number_due}
+use Rattle.patterson_read.specs.Rcp.{Activity, head_due, activity_due, next_activity, text_due, read_instance}
 use Rattle.rc_edge.specs.Written.{demands_of, HasSmallDemandsAt, HasSmallDemands}
 use Rattle.patterson_read.specs.Written.{spaced, line, activity_numbers, rcp_lines, rcp_text}
 
@@ -66,89 +68,20 @@ lines_words (row ∷ rows) small =
     line_words row (flat_map line rows) (flat_map (map decimal) rows)
     (All-head AreSmall row rows small) (lines_words rows (All-tail AreSmall row rows small))
 
--- a capacity is read, if it is within the limit
-capacity_reads : (size resource c : ℕ) → c ≤ MAX_CAPACITY
-    → Reads HaveTexts (rcp.capacity size resource) (decimal c ∷ []) c
-unfolding rcp.capacity
-capacity_reads size resource c small = record {
-  reads = λ tokens later is.
-      let due = number_is_due size tokens c later (omega arith) is in record {
-        rest = due.rest;
-        gives = rw (due.gives, capacity_accepted resource c due.at small) refl;
-        shows = due.words;
-      };
-}
+-- what is left shows these words
+abbrev pub HasWordsLeft : Left → List (List ℕ) → Type 0
+HasWordsLeft left words = texts left.tokens ≡ words
 
--- a demand is read, however great
-demand_reads : (size d : ℕ) → d < 2 ^ 32 → Reads HaveTexts (rcp.demand size) (decimal d ∷ []) d
-unfolding rcp.demand
-demand_reads size d small = record {
-  reads = λ tokens later is.
-      let due = number_is_due size tokens d later small is in record {
-        rest = due.rest;
-        gives = rw due.gives refl;
-        shows = due.words;
-      };
-}
-
--- a duration is read, where the sum so far with it is short enough
-duration_reads : (size before d : ℕ) → before + d ≤ MAX_DURATION_SUM
-    → Reads HaveTexts (rcp.duration size before) (decimal d ∷ []) d
-unfolding rcp.duration
-duration_reads size before d short = record {
-  reads = λ tokens later is.
-      let due = number_is_due size tokens d later (omega arith) is in record {
-        rest = due.rest;
-        gives = rw (due.gives, duration_accepted before d due.at short) refl;
-        shows = due.words;
-      };
-}
-
--- a successor is read, if it is an activity
-successor_reads : (size : ℕ) (head : Head) (activity b : ℕ) → 1 ≤ b → b ≤ head.activities
-    → head.activities ≤ MAX_ACTIVITIES
-    → Reads HaveTexts (rcp.successor size head activity) (decimal b ∷ []) b
-unfolding rcp.successor
-successor_reads size head activity b some within few = record {
-  reads = λ tokens later is.
-      let due = number_is_due size tokens b later (omega arith) is in record {
-        rest = due.rest;
-        gives = rw (due.gives, successor_accepted head.activities activity b due.at some within)
-            refl;
-        shows = due.words;
-      };
-}
-
--- all capacities are read
-each_capacity : (size : ℕ) (found xs : List ℕ) → All (λ c. c ≤ MAX_CAPACITY) xs
-    → ReadsEach HaveTexts (next_capacity size) (λ n. decimal n ∷ []) (λ n. n) found xs
-each_capacity size found [] small = tt
-each_capacity size found (c ∷ cs) small = (
-  capacity_reads size (length found + 1) c (All-head (λ c. c ≤ MAX_CAPACITY) c cs small),
-  each_capacity size (found ++ c ∷ []) cs (All-tail (λ c. c ≤ MAX_CAPACITY) c cs small),
-)
-
--- all demands of an activity are read
-each_demand : (size : ℕ) (found xs : List ℕ) → AreSmall xs
-    → ReadsEach HaveTexts (λ _. rcp.demand size) (λ n. decimal n ∷ []) (λ n. n) found xs
-each_demand size found [] small = tt
-each_demand size found (d ∷ ds) small = (
-  demand_reads size d (All-head (λ n. n < 2 ^ 32) d ds small),
-  each_demand size (found ++ d ∷ []) ds (All-tail (λ n. n < 2 ^ 32) d ds small),
-)
-
--- all successors of an activity are read
-each_successor : (size : ℕ) (head : Head) (activity : ℕ) (found xs : List ℕ)
-    → All (λ b. (1 ≤ b) × (b ≤ head.activities)) xs → head.activities ≤ MAX_ACTIVITIES
-    → ReadsEach HaveTexts (λ _. rcp.successor size head activity) (λ n. decimal n ∷ []) (λ n. n)
-    found xs
-each_successor size head activity found [] within few = tt
-each_successor size head activity found (b ∷ bs) within few =
-    let here = All-head (λ b. (1 ≤ b) × (b ≤ head.activities)) b bs within in (
-      successor_reads size head activity b here.0 here.1 few,
-      each_successor size head activity (found ++ b ∷ []) bs
-          (All-tail (λ b. (1 ≤ b) × (b ≤ head.activities)) b bs within) few,
-    )
+-- the word of a number is read as that number
+number_reads : ReadsNumbers HasWordsLeft number_due
+unfolding number_due
+number_reads left n later small is =
+    let due = number_is_due left.size left.tokens n later small is in record {
+      at = due.at;
+      rest = record left { tokens = due.rest };
+      gives = rw due.gives refl;
+      shows = due.words;
+    }
 
 -- the words of an activity
 abbrev pub activity_words : Activity → List (List ℕ)
@@ -163,30 +96,31 @@ pub record IsFit (head : Head) (x : Activity) : Type 0 where
   pub successors : AreSuccessors head.activities x.successors
 
 -- an activity is read of its words
-activity_reads : (size : ℕ) (head : Head) (number before : ℕ) (x : Activity)
+activity_reads : (head : Head) (number before : ℕ) (x : Activity)
     → head.activities ≤ MAX_ACTIVITIES → IsFit head x
     → before + x.duration ≤ MAX_DURATION_SUM
-    → Reads HaveTexts (rcp.activity size head number before) (activity_words x) x
-unfolding rcp.activity
-activity_reads size head number before x few fit short = record {
-  reads = λ tokens later is.
+    → Reads HasWordsLeft (activity_due head number before) (activity_words x) x
+unfolding activity_due
+activity_reads head number before x few fit short = record {
+  reads = λ left later is.
       let many = rising_length head.activities x.successors fit.successors in
+      let one = λ (_ : List ℕ). successor_due number_due head.activities number in
       let successors_left = map decimal x.successors ++ later in
       let count_left = decimal (length x.successors) ∷ successors_left in
-      let duration = (duration_reads size before x.duration short).reads tokens
-      (map decimal x.demands ++ count_left)
-      (is ∙ ap (λ words. decimal x.duration ∷ words)
+      let begun = is ∙ ap (λ words. decimal x.duration ∷ words)
       (append_assoc (map decimal x.demands)
-      (decimal (length x.successors) ∷ map decimal x.successors) later)) in
-      let demands = more_numbers_read HaveTexts (λ _. rcp.demand size) head.resources x.demands
-      fit.demands (each_demand size [] x.demands fit.small)
-      duration.rest count_left duration.shows in
-      let count = number_is_due size demands.rest (length x.successors) successors_left
+      (decimal (length x.successors) ∷ map decimal x.successors) later) in
+      let duration = (duration_reads HasWordsLeft number_due number_reads before x.duration
+      short).reads left (map decimal x.demands ++ count_left) begun in
+      let each_demand = each_demand HasWordsLeft number_due number_reads [] x.demands fit.small in
+      let demands = more_numbers_read HasWordsLeft (λ _. demand_due number_due) head.resources
+      x.demands fit.demands each_demand duration.rest count_left duration.shows in
+      let count = number_reads demands.rest (length x.successors) successors_left
       (omega arith) demands.shows in
-      let successors = more_numbers_read HaveTexts (λ _. rcp.successor size head number)
-      (length x.successors) x.successors refl
-      (each_successor size head number [] x.successors fit.successors.within few) count.rest later
-      count.words in
+      let each = each_successor HasWordsLeft number_due number_reads head.activities number []
+      x.successors fit.successors.within few in
+      let successors = more_numbers_read HasWordsLeft one (length x.successors) x.successors refl
+      each count.rest later count.shows in
       record {
         rest = successors.rest;
         gives = rw (duration.gives, demands.gives, count.gives, successors.gives) refl;
@@ -195,23 +129,19 @@ activity_reads size head number before x few fit short = record {
 }
 
 -- activities are read one after the other
-each_activity : (size : ℕ) (head : Head) (found xs : List Activity)
+each_activity : (head : Head) (found xs : List Activity)
     → head.activities ≤ MAX_ACTIVITIES → All (IsFit head) xs
     → sum_by (λ a. a.duration) found + sum_by (λ a. a.duration) xs ≤ MAX_DURATION_SUM
-    → ReadsEach HaveTexts (next_activity size head) activity_words (λ x. x) found xs
-each_activity size head found [] few fit short = tt
-each_activity size head found (x ∷ xs) few fit short = (
-  activity_reads size head (length found + 1) (sum_by (λ a. a.duration) found) x few
-      (All-head (IsFit head) x xs fit)
-      (omega (arith, sum_by-cons (λ (a : Activity). a.duration) x xs)),
-  each_activity size head (found ++ x ∷ []) xs few (All-tail (IsFit head) x xs fit)
-      (omega (
-        arith,
-        sum_by_push (λ (a : Activity). a.duration) found x,
-        sum_by-cons
-            (λ (a : Activity). a.duration) x xs,
-      )),
-)
+    → ReadsEach HasWordsLeft (next_activity head) activity_words (λ x. x) found xs
+each_activity head found [] few fit short = tt
+each_activity head found (x ∷ xs) few fit short =
+    let sum = sum_by-cons (λ (a : Activity). a.duration) x xs in
+    let pushed = sum_by_push (λ (a : Activity). a.duration) found x in (
+      activity_reads head (length found + 1) (sum_by (λ a. a.duration) found) x few
+          (All-head (IsFit head) x xs fit) (omega (arith, sum)),
+      each_activity head (found ++ x ∷ []) xs few (All-tail (IsFit head) x xs fit)
+          (omega (arith, pushed, sum)),
+    )
 
 -- what the text says of an activity of an instance
 abbrev pub activity_of : Project → ℕ → Activity
@@ -299,42 +229,43 @@ small_rows project limits small =
     (small (get_or (numbers n) i d) is) is)))
 
 -- the words of the text are read as its capacities and activities
-text_reads : (size : ℕ) (project : Project) (tokens : List Token) → IsWithinLimits project
+text_reads : (left : Left) (project : Project) → IsWithinLimits project
     → HasSmallDemands project
-    → texts tokens ≡ decimal (activity_count project) ∷ decimal (resource_count project) ∷ map
+    → texts left.tokens ≡ decimal (activity_count project) ∷ decimal (resource_count project) ∷ map
     decimal project.capacities
     ++ flat_map activity_words (map (activity_of project) (numbers (activity_count project)))
-    → text_due size tokens
+    → text_due left
     ≡ Ok (record {
       capacities = project.capacities;
       activities = map (activity_of project)
           (numbers (activity_count project));
     })
-unfolding text_due rcp.head
-text_reads size project tokens limits small all =
+unfolding text_due head_due
+text_reads left project limits small all =
     let n = activity_count project in
     let k = resource_count project in
     let activities = map (activity_of project) (numbers n) in
     let activity_part = flat_map activity_words activities in
-    let first = number_is_due size tokens n
-    (decimal k ∷ map decimal project.capacities ++ activity_part) (omega (arith, limits.activities))
+    let capacity_part = map decimal project.capacities ++ activity_part in
+    let first = number_reads left n (decimal k ∷ capacity_part) (omega (arith, limits.activities))
     all in
-    let second = number_is_due size first.rest k (map decimal project.capacities ++ activity_part)
-    (omega (arith, limits.resources)) first.words in
-    let capacities = more_numbers_read HaveTexts (next_capacity size) k project.capacities refl
-    (each_capacity size [] project.capacities limits.capacities)
-    second.rest activity_part second.words in
+    let second = number_reads first.rest k capacity_part (omega (arith, limits.resources))
+    first.shows in
+    let each = each_capacity HasWordsLeft number_due number_reads [] project.capacities
+    limits.capacities in
+    let capacities = more_numbers_read HasWordsLeft (next_capacity number_due) k project.capacities
+    refl each second.rest activity_part second.shows in
     let count : length activities ≡ n = length-map-range_with_len (activity_of project) 1 n in
     let sum_is : sum_by (λ (a : Activity). a.duration) activities ≡ sum project.durations =
     sym (sum-map (λ (a : Activity). a.duration) activities) ∙ ap sum
     (durations_of project (numbers n) ∙ durations_are project) in
-    let others = more_reads HaveTexts (next_activity size (head_of project)) activity_words (λ x. x)
-    [] activities
-    (each_activity size (head_of project) [] activities limits.activities
-    (all_fit project limits small) (omega (arith, sum_is, limits.durations))) capacities.rest []
-    (capacities.shows ∙ sym (append-nil activity_part)) in
+    let fit = all_fit project limits small in
+    let each_one = each_activity (head_of project) [] activities limits.activities fit
+    (omega (arith, sum_is, limits.durations)) in
+    let others = more_reads HasWordsLeft (next_activity (head_of project)) activity_words (λ x. x)
+    [] activities each_one capacities.rest [] (capacities.shows ∙ sym (append-nil activity_part)) in
     let all_read = rw (count, map-id activities) at others.gives in
-    let end : others.rest ≡ [] = no_words others.rest others.shows in
+    let end : others.rest.tokens ≡ [] = no_words others.rest.tokens others.shows in
     rw (
       first.gives,
       activity_count_accepted n first.at limits.some limits.activities,
@@ -367,7 +298,7 @@ written_is_read project limits small =
     let all = words ∙ all_words project in
     let text = flat_map line (rcp_lines project) in
     rw (
-      text_reads (length text) project (tokens_of text) limits small all,
+      text_reads (whole text) project limits small all,
       durations_of project (numbers n),
       durations_are project,
       flat_map-map (λ (a : Activity). a.demands) (activity_of project) (numbers n),

@@ -1,3 +1,5 @@
+pub mod Calendar
+pub mod Left
 pub mod ListFile
 pub mod Rcp
 pub mod View

@@ -1,4 +1,5 @@
--- A list file: numbers alone, in order, with white space between them. The empty text is the empty list.
+-- A list file: numbers alone, in order, with white space between them. The empty text is the empty
+-- list.
 use Rattle.std.specs.Prelude.{ℕ, List, [], ◌∷◌, Result, Ok}
 use Rattle.rc_edge.specs.declared.text_fault.TextFault.{TextFault}
 use Rattle.rc_edge.specs.declared.text_fault.TextKind.{TextKind}

@@ -16,13 +16,15 @@ unfoldable pub line : List ℕ → List ℕ
 line [] = codes "\n"
 line (first ∷ others) = decimal first ++ flat_map spaced others ++ codes "\n"
 
--- an activity: its duration, its demands, how many direct successors it has, and these in rising order
+-- an activity: its duration, its demands, how many direct successors it has, and these in rising
+-- order
 unfoldable pub activity_numbers : Project → ℕ → List ℕ
 activity_numbers project a =
     duration project a ∷ demands_of project a
     ++ length (successors_of project a) ∷ successors_of project a
 
--- the numbers, a list for each line: how many activities and resources there are, the capacities, and each activity
+-- the numbers, a list for each line: how many activities and resources there are, the capacities,
+-- and each activity
 unfoldable pub rcp_lines : Project → List (List ℕ)
 rcp_lines project =
     (activity_count project ∷ resource_count project ∷ []) ∷ project.capacities

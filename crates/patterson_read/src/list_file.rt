@@ -3,7 +3,8 @@ ghost use Rattle.rc_instance.specs.declared.limits.TheConstants.{MAX_FILE_BYTES}
 ghost use Rattle.rc_edge.specs.Grammar.{GivesOrMemory};
 ghost use Rattle.patterson_read.specs.ListFile.{read_list, IsListKind};
 
-use rc_edge::{TextFault, next_token, number_due};
+use crate::cursor::Cursor;
+use rc_edge::{NumberSource, TextFault};
 use std::alloc::Global;
 
 /// The numbers of a list file in order, or the first fault of the text: `NotANumber` or
@@ -16,12 +17,11 @@ pub fn read_list(alloc: Global, bytes: &[u8]) -> Result<Vec<u32>, TextFault>
     ensures reads { GivesOrMemory (λ list. list.items) result (read_list bytes.now) }
     ensures kinds { IfErr result (λ fault. IsListKind fault.kind) }
 {
+    let mut cursor = Cursor::new(bytes);
     let mut list = Vec::new(alloc);
-    let mut at = 0;
-    while let Some((_, end)) = next_token(bytes, at) {
-        let (number, _) = number_due(bytes, at)?;
+    while !cursor.is_at_end() {
+        let number = cursor.number()?;
         list.push(number.value)?;
-        at = end;
     }
     Ok(list)
 }

@@ -1,44 +1,40 @@
-ghost use Rattle.std.specs.Prelude.{◌≡◌, ℕ, ◌+◌, ◌≤◌, List, [], ◌∷◌, ◌++◌, length, IfOk, OnOk};
-ghost use Rattle.rc_instance.specs.declared.limits.TheConstants.{MAX_FILE_BYTES};
-ghost use Rattle.rc_edge.specs.Tokens.{tokens_after};
+ghost use Rattle.std.specs.Prelude.{◌≡◌, ◌+◌, ◌≤◌, [], ◌∷◌, ◌++◌, IfOk};
+ghost use Rattle.rc_instance.specs.declared.limits.TheConstants.{MAX_DURATION_SUM};
 ghost use Rattle.rc_edge.specs.Grammar.{StandsOrMemory, more};
-ghost use Rattle.patterson_read.specs.Rcp.{next_activity, nothing, text_due, Text};
-ghost use Rattle.patterson_read.specs.View.{view, Holds};
+ghost use Rattle.patterson_read.specs.Rcp.{activity_due, next_activity, text_due, Text};
+ghost use Rattle.patterson_read.specs.View.{Holds, Gains};
 
-use crate::activity::{Activity, read_activity};
-use crate::lists::read_capacities;
-use crate::number::{Head, read_head};
-use rc_edge::{TextFault, TextKind, next_token};
+use crate::cursor::Cursor;
+use crate::head::{Head, read_head};
+use rc_edge::{
+    NumberSource, TextFault, push_demands, read_capacities, read_duration, read_successors,
+};
 use rc_instance::Parts;
-use std::alloc::{AllocError, Global};
+use std::alloc::Global;
 
 /// The parts that a whole text tells.
 #[tactic(auto, unfolding(crate::specs::Rcp::text_due))]
-pub fn read_parts(alloc: Global, bytes: &[u8]) -> Result<Parts, TextFault>
-    requires { length bytes.now ≤ MAX_FILE_BYTES }
-    ensures { StandsOrMemory (λ parts text. Holds text parts) result
-        (text_due (length bytes.now) (tokens_after bytes.now 0)) }
+pub fn read_parts(alloc: Global, cursor: &mut Cursor) -> Result<Parts, TextFault>
+    ensures { StandsOrMemory (λ parts text. Holds text parts) result (text_due cursor.old) }
 {
-    let (head, next) = read_head(bytes, 0)?;
-    let (capacities, next) = read_capacities(alloc, bytes, next, head.resources)?;
-    let (parts, next) = read_activities(alloc, bytes, next, head, capacities)?;
-    read_end(bytes, next)?;
+    let head = read_head(cursor)?;
+    let capacities = read_capacities(alloc, cursor, head.resources)?;
+    let parts = read_activities(alloc, cursor, head, capacities)?;
+    cursor.end()?;
     Ok(parts)
 }
 
+/// The parts of these capacities and of all activities.
 fn read_activities(
     alloc: Global,
-    bytes: &[u8],
-    from: usize,
+    cursor: &mut Cursor,
     head: Head,
     capacities: Vec<u32>,
-) -> Result<(Parts, usize), TextFault>
-    requires size { length bytes.now ≤ MAX_FILE_BYTES }
-    requires start { from ≤ length bytes.now }
-    ensures reads { StandsOrMemory (λ x y. Holds (record { capacities = capacities.items; activities = y.0 }) x.0
-        × (y.1 ≡ tokens_after bytes.now x.1)) result
-        (more (next_activity (length bytes.now) head) head.activities [] (tokens_after bytes.now from)) }
-    ensures within { IfOk result (λ x. x.1 ≤ length bytes.now) }
+) -> Result<Parts, TextFault>
+    ensures { StandsOrMemory (λ parts read.
+        Holds (record { capacities = capacities.items; activities = read.0 }) parts
+        × (read.1 ≡ cursor.new)) result
+        (more (next_activity head) head.activities [] cursor.old) }
 {
     let mut parts = Parts {
         capacities,
@@ -46,39 +42,34 @@ fn read_activities(
         demands: Vec::new(alloc),
         successors: Vec::new(alloc),
     };
-    let mut at = from;
     let mut sum = 0;
     for index in 0..head.activities {
-        let (activity, next) = read_activity(alloc, bytes, at, head, index + 1, sum)?;
-        sum += activity.duration;
-        push_activity(&mut parts, activity)?;
-        at = next;
+        sum += read_activity(alloc, cursor, head, index + 1, sum, &mut parts)?;
     }
-    Ok((parts, at))
+    Ok(parts)
 }
 
-/// The same parts with one activity more.
-fn push_activity(parts: &mut Parts, activity: Activity) -> Result<(), AllocError>
-    ensures { OnOk result ((text : Text) → Holds text parts.old
-        → Holds (record text { activities = text.activities ++ view activity ∷ [] }) parts.new) }
+/// Puts the activity with this number into the parts, and answers its duration, in periods; those
+/// before it have durations of the sum `before`.
+#[tactic(auto, unfolding(crate::specs::Rcp::activity_due))]
+fn read_activity(
+    alloc: Global,
+    cursor: &mut Cursor,
+    head: Head,
+    number: u32,
+    before: u32,
+    parts: &mut Parts,
+) -> Result<u32, TextFault>
+    ensures reads { StandsOrMemory (λ duration read. (duration ≡ read.0.duration)
+        × (read.1 ≡ cursor.new) × Gains read.0 parts.old parts.new) result
+        (activity_due head number before cursor.old) }
+    ensures short { IfOk result (λ duration. before + duration ≤ MAX_DURATION_SUM) }
 {
-    parts.durations.push(activity.duration)?;
-    parts.demands.extend_from_slice(&activity.demands)?;
-    parts.successors.push(activity.successors)?;
-    Ok(())
-}
-
-/// Refuses a token that is left.
-fn read_end(bytes: &[u8], from: usize) -> Result<(), TextFault>
-    requires size { length bytes.now ≤ MAX_FILE_BYTES }
-    requires start { from ≤ length bytes.now }
-    ensures { result ≡ nothing (tokens_after bytes.now from) }
-{
-    match next_token(bytes, from) {
-        Some((start, _)) => Err(TextFault {
-            kind: TextKind::Trailing,
-            at: start as u32,
-        }),
-        None => Ok(()),
-    }
+    let duration = read_duration(cursor, before)?;
+    push_demands(cursor, head.resources, &mut parts.demands)?;
+    let count = cursor.number()?.value;
+    let successors = read_successors(alloc, cursor, count, head.activities, number)?;
+    parts.durations.push(duration)?;
+    parts.successors.push(successors)?;
+    Ok(duration)
 }

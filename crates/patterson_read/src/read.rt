@@ -3,9 +3,10 @@ ghost use Rattle.rc_instance.specs.declared.limits.TheConstants.{MAX_FILE_BYTES}
 ghost use Rattle.rc_edge.specs.Grammar.{GivesOrMemory};
 ghost use Rattle.patterson_read.specs.Rcp.{read_instance, IsKind};
 
+use crate::cursor::Cursor;
 use crate::parts::read_parts;
-use rc_edge::{TextFault, TextKind};
-use rc_instance::{Instance, InstanceFault};
+use rc_edge::{TextFault, built};
+use rc_instance::Instance;
 use std::alloc::Global;
 
 /// The instance of a text in the `.rcp` format of Patterson, or the first fault of the text.
@@ -17,16 +18,6 @@ pub fn read_rcp(alloc: Global, bytes: &[u8]) -> Result<Instance, TextFault>
     ensures reads { GivesOrMemory (λ instance. instance) result (read_instance bytes.now) }
     ensures kinds { IfErr result (λ fault. IsKind fault.kind) }
 {
-    let parts = read_parts(alloc, bytes)?;
-    match Instance::build(alloc, parts) {
-        Ok(instance) => Ok(instance),
-        Err(fault) => {
-            // Each limit was tested at the number that would pass it.
-            prove!(matches!(fault, InstanceFault::Memory));
-            Err(TextFault {
-                kind: TextKind::Memory,
-                at: 0,
-            })
-        }
-    }
+    let parts = read_parts(alloc, &mut Cursor::new(bytes))?;
+    built(alloc, parts)
 }

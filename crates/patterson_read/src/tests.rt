@@ -1,7 +1,7 @@
-use super::{read_list, read_rcp, write_rcp};
+use super::{read_calendar, read_list, read_rcp, write_rcp};
 use rc_edge::{TextFault, TextKind};
-use rc_instance::limits::MAX_FILE_BYTES;
-use rc_instance::{Instance, InstanceFault};
+use rc_instance::limits::{MAX_FILE_BYTES, MAX_RESOURCES};
+use rc_instance::{Change, Instance, InstanceFault};
 use std::alloc::Global;
 use std::test::*;
 
@@ -157,6 +157,70 @@ fn the_first_fault_of_a_list_is_shown(rt: HostRuntime) -> Result<(), Fail> {
         let list = list_of(rt.alloc(), text).ok_or("the text is short")?;
         assert_eq!(rt; list.err(), Some(TextFault { kind, at }));
     }
+    Ok(())
+}
+
+fn calendar_of(
+    alloc: Global,
+    text: &[u8],
+    resources: u32,
+) -> Option<Result<Vec<Change>, TextFault>> {
+    if text.len() > MAX_FILE_BYTES as usize || resources > MAX_RESOURCES {
+        return None;
+    }
+    Some(read_calendar(alloc, text, resources))
+}
+
+#[test]
+fn calendars_are_read(rt: HostRuntime) -> Result<(), Fail> {
+    let change = |resource, period, capacity| Change {
+        resource,
+        period,
+        capacity,
+    };
+    for (text, resources, changes) in [
+        (&b"0"[..], 0, &[][..]),
+        (b"2 1 1 0 1 3 2", 1, &[change(1, 1, 0), change(1, 3, 2)]),
+        (b"2\n1 5 0\n2 1 0\n", 2, &[change(1, 5, 0), change(2, 1, 0)]),
+        (b"1 16 65535 65535", 16, &[change(16, 65_535, 65_535)]),
+    ] {
+        let read = calendar_of(rt.alloc(), text, resources).ok_or("the text is short")?;
+        let read = read.ok().ok_or("the text is a calendar")?;
+        assert_eq!(rt; &read[..], changes);
+    }
+    Ok(())
+}
+
+#[test]
+fn the_first_fault_of_a_calendar_is_shown(rt: HostRuntime) -> Result<(), Fail> {
+    let large = TextKind::Instance(InstanceFault::CapacityTooLarge {
+        resource: 1,
+        capacity: 65_536,
+    });
+    for (text, kind, at) in [
+        (&b""[..], TextKind::Ended, 0),
+        (b"1 1 4", TextKind::Ended, 5),
+        (b"x", TextKind::NotANumber, 0),
+        (b"1 1 4 4294967296", TextKind::NumberTooLarge, 6),
+        (b"1001", TextKind::TooManyChanges, 0),
+        (b"0 7", TextKind::Trailing, 2),
+        (b"1 2 1 0", TextKind::ResourceOutOfRange, 2),
+        (b"1 0 1 0", TextKind::ResourceOutOfRange, 2),
+        (b"1 1 0 5", TextKind::PeriodOutOfRange, 4),
+        (b"1 1 65536 5", TextKind::PeriodOutOfRange, 4),
+        (b"2 1 3 0 1 3 2", TextKind::NotRising, 10),
+        (b"2 1 3 0 1 0 2", TextKind::PeriodOutOfRange, 10),
+        (b"1 1 1 65536", large, 6),
+    ] {
+        let read = calendar_of(rt.alloc(), text, 1).ok_or("the text is short")?;
+        assert_eq!(rt; read.err(), Some(TextFault { kind, at }));
+    }
+    let falling = calendar_of(rt.alloc(), b"2 2 1 0 1 5 0", 2).ok_or("the text is short")?;
+    let at = TextFault {
+        kind: TextKind::NotRising,
+        at: 10,
+    };
+    assert_eq!(rt; falling.err(), Some(at));
     Ok(())
 }
 

@@ -3,7 +3,7 @@ pub mod EligibleLaws
 pub mod ChoiceLaws
 pub mod FreeLaws
 pub mod CountingLaws
-pub mod SwapLaws
+pub mod PileLaws
 pub mod ReleaseLaws
 pub mod ChoosingLaws
 pub mod NumberLaws

@@ -1,5 +1,5 @@
 -- What the tables of a choice in progress keep.
-use Rattle.std.specs.Prelude.{◌≡◌, ◌≢◌, ℕ, ◌-◌, ◌<◌, ◌≤◌, ◌⊎◌, true, not, List, slice_index, All, AllPairs, count_by}
+use Rattle.std.specs.Prelude.{◌≡◌, ◌≢◌, ℕ, ◌+◌, ◌-◌, ◌*◌, ◌^◌, ◌<◌, ◌≤◌, ◌⊎◌, true, not, List, slice_index, All, AllPairs, count_by}
 use Rattle.rc_instance.specs.Lists.{names, IsUpTo}
 use Rattle.rc_instance.specs.Project.{Project, IsActivity}
 use Rattle.activity_net.specs.Network.{predecessors_of}
@@ -24,8 +24,11 @@ pub record AreFree (n : ℕ) (waiting free : List ℕ) : Type 0 where
 abbrev pub GoesFirst : (ℕ → ℕ) → ℕ → ℕ → Type 0
 GoesFirst key a b = (key a < key b) ⊎ ((key a ≡ key b) × (a ≤ b))
 
--- of the places from one to another, that whose number goes first
-pub record IsBestPlace (keys order : List ℕ) (from to best : ℕ) : Type 0 where
-  pub within : (from ≤ best) × (best < to)
-  pub first : (place : ℕ) → from ≤ place → place < to
-      → GoesFirst (key_in keys) (slice_index order best) (slice_index order place)
+-- the rank of a number of 32 bits: by its key, and among equal keys by itself
+abbrev pub rank_in : List ℕ → ℕ → ℕ
+rank_in keys a = key_in keys a * 2 ^ 32 + a
+
+-- the first so many numbers of a pile have falling rank: the last of them goes first
+pub record IsPile (keys pile : List ℕ) (count : ℕ) : Type 0 where
+  pub falling : (i j : ℕ) → i < j → j < count
+      → rank_in keys (slice_index pile j) ≤ rank_in keys (slice_index pile i)

@@ -13,6 +13,7 @@ use std::marker::Model;
 #[derive(Debug, Drop)]
 pub struct Chooser {
     waiting: Vec<u32>,
+    pile: Vec<u32>,
     order: Vec<u32>,
 }
 
@@ -21,7 +22,8 @@ impl Model for Chooser {
 
     ghost view = { λ chooser. length chooser.waiting.items };
 
-    ghost invariant = { λ chooser. length chooser.order.items ≡ length chooser.waiting.items };
+    ghost invariant = { λ chooser. (length chooser.pile.items ≡ length chooser.waiting.items)
+        × (length chooser.order.items ≡ length chooser.waiting.items) };
 }
 
 impl Chooser {
@@ -31,8 +33,13 @@ impl Chooser {
     {
         let count = net.instance().count() as usize;
         let waiting = vec![in alloc; 0; count]?;
+        let pile = vec![in alloc; 0; count]?;
         let order = vec![in alloc; 0; count]?;
-        Ok(Chooser { waiting, order })
+        Ok(Chooser {
+            waiting,
+            pile,
+            order,
+        })
     }
 
     /// Makes the list that of `list_by_keys`, whatever it was. It takes no memory.
@@ -44,7 +51,13 @@ impl Chooser {
           order = key_list list.old.network.project (key_in keys.now);
         } }
     {
-        choose_order(list.net(), keys, &mut self.waiting, &mut self.order);
+        choose_order(
+            list.net(),
+            keys,
+            &mut self.waiting,
+            &mut self.pile,
+            &mut self.order,
+        );
         list.set_order(&self.order);
     }
 }

@@ -26,8 +26,9 @@ pub fn list_by_keys<'n>(
     }) }
 {
     let mut waiting = vec![in alloc; 0; keys.len()]?;
+    let mut pile = vec![in alloc; 0; keys.len()]?;
     let mut order = vec![in alloc; 0; keys.len()]?;
-    choose_order(net, keys, &mut waiting, &mut order);
+    choose_order(net, keys, &mut waiting, &mut pile, &mut order);
     Ok(FeasibleList::from_feasible(net, order))
 }
 

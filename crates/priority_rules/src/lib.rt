@@ -17,6 +17,7 @@ mod chooser;
 mod choosing;
 mod key_list;
 pub mod laws;
+mod pile;
 mod rule;
 mod rule_list;
 

@@ -2,7 +2,7 @@
 use Rattle.std.proofs.Common.{◌≡◌, ℕ, ◌≤◌, Bool, true, false, List, [], ◌∷◌, Ok, Option, None, Some, subst}
 use Rattle.std.specs.Prelude.{IfSome, if◌then◌else◌}
 use Rattle.rc_instance.specs.declared.limits.TheConstants.{MAX_ACTIVITIES, MAX_RESOURCES}
-use Rattle.rc_edge.specs.declared.due.Number.{Number}
+use Rattle.rc_edge.specs.declared.text_number.Number.{Number}
 use Rattle.rc_edge.specs.Grammar.{◌>>=◌}
 use Rattle.rc_edge.specs.Entries as entries
 use Rattle.rc_edge.proofs.EntryLaws.{guard_ok, activity_count_is, resource_count_is}
@@ -25,7 +25,8 @@ value_keeps : (topic : Topic) (number : Number) (preamble after : Preamble) → 
 unfolding with_value
 value_keeps Projects number preamble after within read =
     let one = guard_ok _ _ _ _ after read in
-    subst IsWithin (ok_is (record preamble { projects = true }) after one.1) (record { jobs = within.jobs; renewable = within.renewable })
+    subst IsWithin (ok_is (record preamble { projects = true }) after one.1)
+    (record { jobs = within.jobs; renewable = within.renewable })
 value_keeps Jobs number preamble after within read =
     let count = bind_ok (entries.activity_count number) _ after read in
     subst IsWithin (ok_is (record preamble { jobs = Some count.0 }) after count.2)
@@ -36,20 +37,25 @@ value_keeps Renewable number preamble after within read =
     (record { jobs = within.jobs; renewable = resource_count_is number count.0 count.1 })
 value_keeps Nonrenewable number preamble after within read =
     let none = guard_ok _ _ _ _ after read in
-    subst IsWithin (ok_is (record preamble { nonrenewable = true }) after none.1) (record { jobs = within.jobs; renewable = within.renewable })
+    subst IsWithin (ok_is (record preamble { nonrenewable = true }) after none.1)
+    (record { jobs = within.jobs; renewable = within.renewable })
 value_keeps DoublyConstrained number preamble after within read =
     let none = guard_ok _ _ _ _ after read in
-    subst IsWithin (ok_is (record preamble { doubly_constrained = true }) after none.1) (record { jobs = within.jobs; renewable = within.renewable })
+    subst IsWithin (ok_is (record preamble { doubly_constrained = true }) after none.1)
+    (record { jobs = within.jobs; renewable = within.renewable })
 
 topic_keeps : (topic : Topic) (line : Line) (preamble after : Preamble) → IsWithin preamble
     → with_topic topic line preamble ≡ Ok after → IsWithin after
 unfolding with_topic
 topic_keeps topic line preamble after within read = by_test (was_read topic preamble) read
   where
-    by_test : (known : Bool) → (if known then Ok preamble else (value_of line >>= λ number. with_value topic number preamble)) ≡ Ok after → IsWithin after
+    by_test : (known : Bool)
+        → (if known then Ok preamble else (value_of line >>= λ number. with_value topic number
+        preamble)) ≡ Ok after → IsWithin after
     by_test true read = subst IsWithin (ok_is preamble after read) within
     by_test false read =
-        let number = bind_ok (value_of line) (λ number. with_value topic number preamble) after read in
+        let number = bind_ok (value_of line) (λ number. with_value topic number preamble) after
+        read in
         value_keeps topic number.0 preamble after within number.2
 
 line_keeps : (line : Line) (preamble after : Preamble) → IsWithin preamble
@@ -73,7 +79,8 @@ head_within : (jobs renewable : Option ℕ) (at : ℕ) (head : Head)
 head_within None renewable at head n k read = absurd cc
 head_within (Some jobs) None at head n k read = absurd cc
 head_within (Some jobs) (Some resources) at head n k read =
-    subst IsHead (ok_is (record { jobs = jobs; resources = resources }) head read) (record { some = n.0; few = n.1; resources = k })
+    subst IsHead (ok_is (record { jobs = jobs; resources = resources }) head read)
+    (record { some = n.0; few = n.1; resources = k })
 
 preamble_gives : (size : ℕ) (preamble : Preamble) (lines : List Line) (found : Head × Left)
     → IsWithin preamble → preamble_in size preamble lines ≡ Ok found → IsHead found.0
@@ -82,16 +89,24 @@ preamble_gives size preamble [] found within read = absurd cc
 preamble_gives size preamble (line ∷ lines) found within read =
     by_test (ends_preamble line) (λ next is. preamble_gives size next lines found is) read
   where
-    by_test : (ends : Bool) → ((next : Preamble) → IsWithin next → preamble_in size next lines ≡ Ok found → IsHead found.0)
-        → (if ends then head_of preamble.jobs preamble.renewable (first_at line) >>= with_lines size lines
-        else with_line line preamble >>= λ next. preamble_in size next lines) ≡ Ok found → IsHead found.0
+    by_test : (ends : Bool) → ((next : Preamble) → IsWithin next → preamble_in size next lines
+        ≡ Ok found → IsHead found.0)
+        → (if ends then head_of preamble.jobs preamble.renewable (first_at line) >>= with_lines size
+        lines
+        else with_line line preamble >>= λ next. preamble_in size next lines) ≡ Ok found
+        → IsHead found.0
     by_test true others read =
-        let head = bind_ok (head_of preamble.jobs preamble.renewable (first_at line)) (with_lines size lines) found read in
-        subst (λ (x : Head × Left). IsHead x.0) (ok_is (head.0, record { size = size; tokens = []; lines = lines }) found head.2)
-        (head_within preamble.jobs preamble.renewable (first_at line) head.0 within.jobs within.renewable head.1)
+        let head = bind_ok (head_of preamble.jobs preamble.renewable (first_at line))
+        (with_lines size lines) found read in
+        subst (λ (x : Head × Left). IsHead x.0)
+        (ok_is (head.0, record { size = size; tokens = []; lines = lines }) found head.2)
+        (head_within preamble.jobs preamble.renewable (first_at line) head.0 within.jobs
+        within.renewable head.1)
     by_test false others read =
-        let next = bind_ok (with_line line preamble) (λ next. preamble_in size next lines) found read in
+        let next = bind_ok (with_line line preamble) (λ next. preamble_in size next lines) found
+        read in
         others next.0 (line_keeps line preamble next.0 within next.1) next.2
 
 pub head_is : (left : Left) (found : Head × Left) → head_due left ≡ Ok found → IsHead found.0
-head_is left found read = preamble_gives left.size nothing_read left.lines found (record { jobs = tt; renewable = tt }) read
+head_is left found read = preamble_gives left.size nothing_read left.lines found
+    (record { jobs = tt; renewable = tt }) read

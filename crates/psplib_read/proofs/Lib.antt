@@ -15,3 +15,5 @@ pub mod WrittenRows
 pub mod WrittenSections
 pub mod WrittenText
 pub mod WrittenWords
+pub mod FaultPlaceLaws
+pub mod TopicLaws

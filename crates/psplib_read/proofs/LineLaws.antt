@@ -12,7 +12,8 @@ line_at at bytes = record { text = line_text bytes; at = at }
 
 -- a line goes on up to the first LF
 line_goes_on : (at : ℕ) (bytes : List ℕ)
-    → lines_from true at bytes ≡ lines_from false (at + line_len bytes + 1) (drop (line_len bytes + 1) bytes)
+    → lines_from true at bytes ≡ lines_from false (at + line_len bytes + 1)
+    (drop (line_len bytes + 1) bytes)
 unfolding lines_from
 line_goes_on at [] = refl
 line_goes_on at (byte ∷ rest) =
@@ -33,21 +34,27 @@ unfolding lines_from
 no_lines at place = refl
 
 -- the first line, and the lines after it; `rest` is what stands after its end
-pub first_line : (at : ℕ) (bytes rest : List ℕ) → 0 < length bytes → rest ≡ drop (line_len bytes + 1) bytes
-    → lines_from false at bytes ≡ line_at at bytes ∷ lines_from false (at + (length bytes - length rest)) rest
+pub first_line : (at : ℕ) (bytes rest : List ℕ) → 0 < length bytes
+    → rest ≡ drop (line_len bytes + 1) bytes
+    → lines_from false at bytes ≡ line_at at bytes ∷ lines_from false
+    (at + (length bytes - length rest)) rest
 unfolding lines_from
 first_line at [] rest some rest_is = absurd (omega arith)
 first_line at (byte ∷ others) rest some rest_is =
     let bytes = byte ∷ others in
-    ap (λ lines. line_at at bytes ∷ lines) (line_goes_on at bytes ∙ rw (← rest_is) (same_place at bytes rest rest_is))
+    ap (λ lines. line_at at bytes ∷ lines) (line_goes_on at bytes ∙ rw (← rest_is)
+    (same_place at bytes rest rest_is))
   where
     same_place : (at : ℕ) (bytes rest : List ℕ) → rest ≡ drop (line_len bytes + 1) bytes
-        → lines_from false (at + line_len bytes + 1) rest ≡ lines_from false (at + (length bytes - length rest)) rest
+        → lines_from false (at + line_len bytes + 1) rest ≡ lines_from false
+        (at + (length bytes - length rest)) rest
     same_place at bytes rest rest_is =
         elim (cases_lt (line_len bytes) (length bytes)) [
           | inl inside ↦
-              let len : length rest ≡ length bytes - (line_len bytes + 1) = ap length rest_is ∙ length-drop (line_len bytes + 1) bytes in
-              let moved : at + (length bytes - length rest) ≡ at + line_len bytes + 1 = omega (arith, len) in
+              let len : length rest ≡ length bytes - (line_len bytes + 1) = ap length rest_is
+              ∙ length-drop (line_len bytes + 1) bytes in
+              let moved : at + (length bytes - length rest) ≡ at + line_len bytes + 1 = omega
+              (arith, len) in
               rw moved refl
           | inr past ↦
               let none : rest ≡ [] = rest_is ∙ drop_all (line_len bytes + 1) bytes (omega arith) in
@@ -78,7 +85,8 @@ pub place_found : (test : ℕ → Bool) (bytes : List ℕ) (place : ℕ) → Som
     → place ≡ position_or_len test bytes
 place_found test bytes place found =
     elim (cases_lt (position_or_len test bytes) (length bytes)) [
-      | inl inside ↦ let first = lt-ltb _ _ inside in some_is place (position_or_len test bytes) (found ∙ rw first refl)
+      | inl inside ↦ let first = lt-ltb _ _ inside in some_is place (position_or_len test bytes)
+          (found ∙ rw first refl)
       | inr past ↦ let none = le-ltb _ _ past in absurd (some_none place (found ∙ rw none refl))
     ]
   where
@@ -92,7 +100,8 @@ pub place_missing : (test : ℕ → Bool) (bytes : List ℕ) → None ≡ positi
     → length bytes ≤ position_or_len test bytes
 place_missing test bytes found =
     elim (cases_lt (position_or_len test bytes) (length bytes)) [
-      | inl inside ↦ let first = lt-ltb _ _ inside in absurd (none_some (position_or_len test bytes) (found ∙ rw first refl))
+      | inl inside ↦ let first = lt-ltb _ _ inside in absurd
+          (none_some (position_or_len test bytes) (found ∙ rw first refl))
       | inr past ↦ past
     ]
   where
@@ -107,7 +116,8 @@ pub line_passed : (at : ℕ) (bytes rest : List ℕ) (line : Line) (all : List L
 line_passed at bytes rest line all some rest_is line_is silent so_far =
     let first = first_line at bytes rest some rest_is in
     let here : is_silent (line_at at bytes) ≡ true = rw (← line_is) silent in
-    sym (silent_passed (line_at at bytes) (lines_from false (at + (length bytes - length rest)) rest) here) ∙ sym (ap spoken first) ∙ so_far
+    sym (silent_passed (line_at at bytes) (lines_from false (at + (length bytes - length rest))
+    rest) here) ∙ sym (ap spoken first) ∙ so_far
 
 pub line_found : (at : ℕ) (bytes rest : List ℕ) (line : Line) (all : List Line) → 0 < length bytes
     → rest ≡ drop (line_len bytes + 1) bytes
@@ -117,7 +127,8 @@ line_found at bytes rest line all some rest_is line_is said so_far =
     let first = first_line at bytes rest some rest_is in
     let here : is_silent (line_at at bytes) ≡ false = rw (← line_is) said in
     let others = lines_from false (at + (length bytes - length rest)) rest in
-    sym so_far ∙ ap spoken first ∙ spoken_first (line_at at bytes) others here ∙ ap (λ line. line ∷ spoken others) (sym line_is)
+    sym so_far ∙ ap spoken first ∙ spoken_first (line_at at bytes) others here
+    ∙ ap (λ line. line ∷ spoken others) (sym line_is)
 
 pub lines_end : (at : ℕ) (bytes : List ℕ) (all : List Line) → length bytes ≤ 0
     → spoken (lines_from false at bytes) ≡ all → all ≡ []

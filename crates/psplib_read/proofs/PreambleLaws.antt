@@ -22,7 +22,8 @@ next_is left next line found = by_lines left.lines found
         → (lines ≡ line ∷ next.lines) × (next.size ≡ left.size)
     by_lines [] found = absurd cc
     by_lines (first ∷ others) found =
-        let same = some_is (first, record left { tokens = tokens_in first; lines = others }) (line, next) found in
+        let same = some_is (first, record left { tokens = tokens_in first; lines = others })
+        (line, next) found in
         let line_is : first ≡ line = ap (λ (x : Line × Left). x.0) same in
         let lines_are : others ≡ next.lines = ap (λ (x : Line × Left). x.1.lines) same in
         (cc, sym (ap (λ (x : Line × Left). x.1.size) same))
@@ -42,39 +43,51 @@ unfolding past_line
 head_and_left size left (Ok head) size_is = rw size_is refl
 head_and_left size left (Err fault) size_is = refl
 
-pub end_comes : (size : ℕ) (preamble : Preamble) (left next : Left) (line : Line) (head : Result Head TextFault) (total : Result (Head × Left) TextFault)
+pub end_comes : (size : ℕ) (preamble : Preamble) (left next : Left) (line : Line)
+    (head : Result Head TextFault) (total : Result (Head × Left) TextFault)
     → next_line left ≡ Some (line, next) → ends_preamble line ≡ true
     → head ≡ head_of preamble.jobs preamble.renewable (first_at line) → left.size ≡ size
-    → preamble_in size preamble left.lines ≡ total → Gives (λ head. (head, past_line next)) head total
+    → preamble_in size preamble left.lines ≡ total → Gives (λ head. (head, past_line next)) head
+    total
 unfolding preamble_in
 end_comes size preamble left next line head total found ends head_is size_is so_far =
     let lines = next_is left next line found in
-    let step : preamble_in size preamble left.lines ≡ (head >>= with_lines size next.lines) = rw (lines.0, ends, head_is) refl in
-    subst (λ (read : Result (Head × Left) TextFault). Gives (λ head. (head, past_line next)) head read) (sym step ∙ so_far)
+    let step : preamble_in size preamble left.lines ≡ (head >>= with_lines size next.lines) =
+    rw (lines.0, ends, head_is) refl in
+    subst (λ (read : Result (Head × Left) TextFault). Gives (λ head. (head, past_line next)) head
+    read) (sym step ∙ so_far)
     (head_and_left size next head (lines.1 ∙ size_is))
 
 -- another line was read, or refused
-pub line_comes : (size : ℕ) (preamble after : Preamble) (left next : Left) (line : Line) (total : Result (Head × Left) TextFault)
-    → next_line left ≡ Some (line, next) → ends_preamble line ≡ false → Ok after ≡ with_line line preamble
+pub line_comes : (size : ℕ) (preamble after : Preamble) (left next : Left) (line : Line)
+    (total : Result (Head × Left) TextFault)
+    → next_line left ≡ Some (line, next) → ends_preamble line ≡ false
+    → Ok after ≡ with_line line preamble
     → preamble_in size preamble left.lines ≡ total → preamble_in size after next.lines ≡ total
 unfolding preamble_in
 line_comes size preamble after left next line total found other read so_far =
     let lines = next_is left next line found in
-    let step : preamble_in size preamble left.lines ≡ preamble_in size after next.lines = rw (lines.0, other, ← read) refl in
+    let step : preamble_in size preamble left.lines ≡ preamble_in size after next.lines =
+    rw (lines.0, other, ← read) refl in
     sym step ∙ so_far
 
-pub line_refused : (size : ℕ) (preamble : Preamble) (left next : Left) (line : Line) (fault : TextFault) (total : Result (Head × Left) TextFault)
-    → next_line left ≡ Some (line, next) → ends_preamble line ≡ false → Err fault ≡ with_line line preamble
+pub line_refused : (size : ℕ) (preamble : Preamble) (left next : Left) (line : Line)
+    (fault : TextFault) (total : Result (Head × Left) TextFault)
+    → next_line left ≡ Some (line, next) → ends_preamble line ≡ false
+    → Err fault ≡ with_line line preamble
     → preamble_in size preamble left.lines ≡ total → total ≡ Err fault
 unfolding preamble_in
 line_refused size preamble left next line fault total found other refused so_far =
     let lines = next_is left next line found in
-    let step : preamble_in size preamble left.lines ≡ Err fault = rw (lines.0, other, ← refused) refl in
+    let step : preamble_in size preamble left.lines ≡ Err fault = rw (lines.0, other, ← refused)
+    refl in
     sym so_far ∙ step
 
 -- no line is left
-pub lines_end : (size : ℕ) (preamble : Preamble) (left : Left) (total : Result (Head × Left) TextFault)
-    → next_line left ≡ None → preamble_in size preamble left.lines ≡ total → total ≡ Err (record { kind = Ended; at = size })
+pub lines_end : (size : ℕ) (preamble : Preamble) (left : Left)
+    (total : Result (Head × Left) TextFault)
+    → next_line left ≡ None → preamble_in size preamble left.lines ≡ total
+    → total ≡ Err (record { kind = Ended; at = size })
 unfolding preamble_in
 lines_end size preamble left total found so_far =
     let none = next_none left found in

@@ -13,14 +13,16 @@ use Rattle.rc_instance.proofs.LimitLaws.{rising_length}
 use Rattle.rc_edge.specs.declared.text_fault.Item.{Item}
 use Rattle.rc_edge.specs.Tokens.{Token, tokens_of}
 use Rattle.rc_edge.specs.Grammar.{more}
+use Rattle.rc_edge.specs.Source.{capacity_due, next_capacity, demand_due, successor_due}
 use Rattle.rc_edge.proofs.NumberedLaws.{AreSmall}
 use Rattle.rc_edge.proofs.WrittenLaws.{texts, HasWords, number_of-decimal}
-use Rattle.rc_edge.proofs.ReadBackLaws.{Leaves, Reads, ReadsEach, more_numbers_read, capacity_accepted, duration_accepted, successor_accepted}
+use Rattle.rc_edge.proofs.ReadBackLaws.{Leaves, Reads, ReadsEach, more_numbers_read}
+use Rattle.rc_edge.proofs.SourceLaws.{ReadsNumbers, duration_reads, each_capacity, each_demand, each_successor}
 use Rattle.psplib_read.specs.declared.preamble.Head.{Head}
 use Rattle.psplib_read.specs.Lines.{Line, moved, tokens_in, indent, key_in, begins_with, begins_with_digit, says}
 use Rattle.psplib_read.specs.Left.{Left, next_line, next_in_line, next_token, past_line}
 use Rattle.psplib_read.specs.Preamble.{token_number}
-use Rattle.psplib_read.specs.Sm.{number_due, same_due, job_due, successor, successors, next_successors, duration, demand, Request, request, next_request, capacity, next_capacity, past_title, section_due, nothing}
+use Rattle.psplib_read.specs.Sm.{number_due, same_due, job_due, successors, next_successors, Request, request, next_request, past_title, section_due, nothing}
 use Rattle.psplib_read.specs.Written.{column}
 use Rattle.psplib_read.proofs.WrittenLines.{line_texts}
 use Rattle.psplib_read.proofs.WrittenWords.{job_line, job_line_words, columns_words}
@@ -85,14 +87,6 @@ pub tokens_in_are : (line : Line) (words : List (List ℕ)) → HasWords line.te
 unfolding tokens_in
 tokens_in_are line words are = moved_texts line.at (tokens_of line.text) ∙ are.has 0
 
--- a number that is due, at whatever offset
-pub record IsDue (later : List (List ℕ)) (left : Left) (n : ℕ) (words : List (List ℕ)) : Type 0
-  where
-    pub at : ℕ
-    pub rest : Left
-    pub gives : number_due left ≡ Ok (record { value = n; at = at }, rest)
-    pub shows : InLine later rest words
-
 -- the first token of the present line is the number that is due
 number_first : (left : Left) (token : Token) (rest : List Token) (n : ℕ) → n < 2 ^ 32
     → left.tokens ≡ token ∷ rest → token.text ≡ decimal n
@@ -101,9 +95,7 @@ unfolding number_due next_token next_in_line token_number
 number_first left token rest n small is text = rw (is, text, number_of-decimal n small) refl
 
 -- the word of a number is read as that number
-pub number_is_due : (later : List (List ℕ)) (left : Left) (n : ℕ) (words : List (List ℕ))
-    → n < 2 ^ 32
-    → InLine later left (decimal n ∷ words) → IsDue later left n words
+pub number_is_due : (later : List (List ℕ)) → ReadsNumbers (InLine later) number_due
 number_is_due later left n words small shows =
     let first = first_is left.tokens (decimal n) words shows.words_left in
     record {
@@ -170,92 +162,9 @@ job_opens job left opened same = rw same refl
 
 -- so is a capacity
 capacity_opens : (resource : ℕ) (left opened : Left) → number_due left ≡ number_due opened
-    → capacity resource left ≡ capacity resource opened
-unfolding capacity
+    → capacity_due number_due resource left ≡ capacity_due number_due resource opened
+unfolding capacity_due
 capacity_opens resource left opened same = rw same refl
-
--- a successor is read, if it is a job
-successor_reads : (later : List (List ℕ)) (head : Head) (job b : ℕ) → 1 ≤ b → b ≤ head.jobs
-    → head.jobs ≤ MAX_ACTIVITIES
-    → Reads (InLine later) (successor head job) (decimal b ∷ []) b
-unfolding successor
-successor_reads later head job b some within few = record {
-  reads = λ left words shows.
-      let due = number_is_due later left b words (omega arith) shows in record {
-        rest = due.rest;
-        gives = rw (due.gives, successor_accepted head.jobs job b due.at some within) refl;
-        shows = due.shows;
-      };
-}
-
--- a duration is read, where the sum so far with it is short enough
-duration_reads : (later : List (List ℕ)) (before d : ℕ) → before + d ≤ MAX_DURATION_SUM
-    → Reads (InLine later) (duration before) (decimal d ∷ []) d
-unfolding duration
-duration_reads later before d short = record {
-  reads = λ left words shows.
-      let due = number_is_due later left d words (omega arith) shows in record {
-        rest = due.rest;
-        gives = rw (due.gives, duration_accepted before d due.at short) refl;
-        shows = due.shows;
-      };
-}
-
--- a demand is read, however great
-demand_reads : (later : List (List ℕ)) (d : ℕ) → d < 2 ^ 32
-    → Reads (InLine later) demand (decimal d ∷ []) d
-unfolding demand
-demand_reads later d small = record {
-  reads = λ left words shows.
-      let due = number_is_due later left d words small shows in record {
-        rest = due.rest;
-        gives = rw due.gives refl;
-        shows = due.shows;
-      };
-}
-
--- a capacity is read, if it is within the limit
-capacity_reads : (later : List (List ℕ)) (resource c : ℕ) → c ≤ MAX_CAPACITY
-    → Reads (InLine later) (capacity resource) (decimal c ∷ []) c
-unfolding capacity
-capacity_reads later resource c small = record {
-  reads = λ left words shows.
-      let due = number_is_due later left c words (omega arith) shows in record {
-        rest = due.rest;
-        gives = rw (due.gives, capacity_accepted resource c due.at small) refl;
-        shows = due.shows;
-      };
-}
-
--- all successors of a job are read
-each_successor : (later : List (List ℕ)) (head : Head) (job : ℕ) (found xs : List ℕ)
-    → All (λ b. (1 ≤ b) × (b ≤ head.jobs)) xs → head.jobs ≤ MAX_ACTIVITIES
-    → ReadsEach (InLine later) (λ _. successor head job) (λ n. decimal n ∷ []) (λ n. n) found xs
-each_successor later head job found [] within few = tt
-each_successor later head job found (b ∷ bs) within few =
-    let here = All-head (λ b. (1 ≤ b) × (b ≤ head.jobs)) b bs within in (
-      successor_reads later head job b here.0 here.1 few,
-      each_successor later head job (found ++ b ∷ []) bs
-          (All-tail (λ b. (1 ≤ b) × (b ≤ head.jobs)) b bs within) few,
-    )
-
--- all demands of a job are read
-each_demand : (later : List (List ℕ)) (found xs : List ℕ) → AreSmall xs
-    → ReadsEach (InLine later) (λ _. demand) (λ n. decimal n ∷ []) (λ n. n) found xs
-each_demand later found [] small = tt
-each_demand later found (d ∷ ds) small = (
-  demand_reads later d (All-head (λ n. n < 2 ^ 32) d ds small),
-  each_demand later (found ++ d ∷ []) ds (All-tail (λ n. n < 2 ^ 32) d ds small),
-)
-
--- all capacities are read
-each_capacity : (later : List (List ℕ)) (found xs : List ℕ) → All (λ c. c ≤ MAX_CAPACITY) xs
-    → ReadsEach (InLine later) next_capacity (λ n. decimal n ∷ []) (λ n. n) found xs
-each_capacity later found [] small = tt
-each_capacity later found (c ∷ cs) small = (
-  capacity_reads later (length found + 1) c (All-head (λ c. c ≤ MAX_CAPACITY) c cs small),
-  each_capacity later (found ++ c ∷ []) cs (All-tail (λ c. c ≤ MAX_CAPACITY) c cs small),
-)
 
 -- nothing more stands in the line
 to_the_end : (later : List (List ℕ)) (left : Left) (words : List (List ℕ)) → InLine later left words
@@ -277,8 +186,10 @@ relation_reads head a list small few are = record {
       let job = job_is_due later opens.opened a (decimal (length list) ∷ map decimal list) small
       opens.shows in
       let count = number_is_due later job.rest (length list) (map decimal list) many job.shows in
-      let all = more_numbers_read (InLine later) (λ _. successor head a) (length list) list refl
-      (each_successor later head a [] list are.within few)
+      let one = λ (_ : List ℕ). successor_due number_due head.jobs a in
+      let each = each_successor (InLine later) number_due (number_is_due later) head.jobs a [] list
+      are.within few in
+      let all = more_numbers_read (InLine later) one (length list) list refl each
       count.rest [] (to_the_end later count.rest (map decimal list) count.shows) in
       record {
         rest = all.rest;
@@ -305,11 +216,13 @@ request_reads head a before d list small short count small_list = record {
       (decimal 1 ∷ decimal d ∷ map decimal list) later shows
       (job_line_words 5 8 7 a 1 d list small (omega arith) (omega arith) small_list) in
       let job = job_is_due later opens.opened a (decimal d ∷ map decimal list) small opens.shows in
-      let duration = (duration_reads later before d short).reads job.rest (map decimal list)
-      job.shows in
-      let all = more_numbers_read (InLine later) (λ _. demand) head.resources list count
-      (each_demand later [] list small_list)
-      duration.rest [] (to_the_end later duration.rest (map decimal list) duration.shows) in
+      let due = number_is_due later in
+      let duration = (duration_reads (InLine later) number_due due before d short).reads job.rest
+      (map decimal list) job.shows in
+      let each = each_demand (InLine later) number_due due [] list small_list in
+      let all = more_numbers_read (InLine later) (λ _. demand_due number_due) head.resources list
+      count each duration.rest []
+      (to_the_end later duration.rest (map decimal list) duration.shows) in
       record {
         rest = all.rest;
         gives = rw (job_opens a left opens.opened opens.same, job.gives, duration.gives, all.gives)
@@ -322,16 +235,16 @@ request_reads head a before d list small short count small_list = record {
 pub capacities_read : (left : Left) (c : ℕ) (cs : List ℕ) (later : List (List ℕ))
     → All (λ c. c ≤ MAX_CAPACITY) (c ∷ cs)
     → AtLine left (flat_map (column 7) (c ∷ cs) ∷ later)
-    → Leaves AtLine (more next_capacity (length (c ∷ cs)) [] left) (c ∷ cs) later
+    → Leaves AtLine (more (next_capacity number_due) (length (c ∷ cs)) [] left) (c ∷ cs) later
 unfolding more
 capacities_read left c cs later small shows =
     let all = c ∷ cs in
     let numbers_small : AreSmall all = λ i d h. omega (arith, small i d h) in
     let opens = line_opens left (flat_map (column 7) all) (decimal c) (map decimal cs) later shows
     (columns_words 7 all numbers_small) in
-    let read = more_numbers_read (InLine later) next_capacity (length all) all refl
-    (each_capacity later [] all small)
-    opens.opened [] (to_the_end later opens.opened (map decimal all) opens.shows) in
+    let each = each_capacity (InLine later) number_due (number_is_due later) [] all small in
+    let read = more_numbers_read (InLine later) (next_capacity number_due) (length all) all refl
+    each opens.opened [] (to_the_end later opens.opened (map decimal all) opens.shows) in
     record {
       rest = read.rest;
       gives = rw (capacity_opens 1 left opens.opened opens.same) read.gives;

@@ -26,7 +26,8 @@ use Rattle.psplib_read.specs.declared.preamble.Head.{Head}
 use Rattle.psplib_read.specs.Lines.{lines_of, lines_from, begins_with}
 use Rattle.psplib_read.specs.Left.{Left, whole}
 use Rattle.psplib_read.specs.Preamble.{head_due}
-use Rattle.psplib_read.specs.Sm.{next_successors, Request, next_request, next_capacity, past_title, section_due, nothing, text_due, read_instance}
+use Rattle.rc_edge.specs.Source.{next_capacity}
+use Rattle.psplib_read.specs.Sm.{number_due, next_successors, Request, next_request, past_title, section_due, nothing, text_due, read_instance}
 use Rattle.psplib_read.specs.Written.{ended, ruler, column, resource_name, resource_names, jobs_line, horizon_line, renewable_line, preamble, relation, relations, request, requests, availabilities, sm_lines, sm_text}
 use Rattle.psplib_read.proofs.WrittenLines.{is_plain_byte, is_plain, line_texts, lines_written, speaks, spoken_are}
 use Rattle.psplib_read.proofs.WrittenWords.{job_line, job_line_plain, job_line_speaks, columns_plain, decimal_plain, number_speaks}
@@ -35,7 +36,8 @@ use Rattle.psplib_read.proofs.WrittenPreamble.{preamble_texts, preamble_reads}
 
 -- the row of a job and its successors
 abbrev pub relation_row : Project → ℕ → List ℕ
-relation_row project a = job_line 8 10 4 a 1 (length (successors_of project a)) (successors_of project a)
+relation_row project a = job_line 8 10 4 a 1 (length (successors_of project a))
+    (successors_of project a)
 
 -- the row of a job, its duration and its demands
 abbrev pub request_row : Project → ℕ → List ℕ
@@ -252,7 +254,8 @@ texts_are project limits =
 -- the capacities are read from the lines after the head of their section
 last_section_reads : (left : Left) (capacities : List ℕ) → All (λ c. c ≤ MAX_CAPACITY) capacities
     → AtLine left (capacity_texts capacities)
-    → Leaves AtLine (more next_capacity (length capacities) [] (past_title left)) capacities []
+    → Leaves AtLine (more (next_capacity number_due) (length capacities) [] (past_title left))
+    capacities []
 unfolding more is_white
 last_section_reads left [] small shows =
     record { rest = past_title left; gives = refl; shows = no_title left shows }
@@ -354,7 +357,7 @@ all_parts : (left relations_left relations_end requests_left requests_end capaci
     → section_due (codes "requests/durations") Requests relations_end ≡ Ok requests_left
     → more (next_request head) head.jobs [] requests_left ≡ Ok (requests, requests_end)
     → section_due (codes "resourceavailabilities") Availabilities requests_end ≡ Ok capacities_left
-    → more next_capacity head.resources [] capacities_left ≡ Ok (capacities, end)
+    → more (next_capacity number_due) head.resources [] capacities_left ≡ Ok (capacities, end)
     → nothing end ≡ Ok tt
     → text_due left ≡ Ok (record
     { capacities = capacities; requests = requests; successors = successors })

@@ -134,7 +134,8 @@ job_line second third others a b c ns =
     placed 4 a ++ column second b ++ column third c ++ flat_map (column others) ns
 
 -- its words are its numbers
-pub job_line_words : (second third others a b c : ℕ) (ns : List ℕ) → a < 2 ^ 32 → b < 2 ^ 32 → c < 2 ^ 32
+pub job_line_words : (second third others a b c : ℕ) (ns : List ℕ) → a < 2 ^ 32 → b < 2 ^ 32
+    → c < 2 ^ 32
     → AreSmall ns
     → HasWords (job_line second third others a b c ns)
     (decimal a ∷ decimal b ∷ decimal c ∷ map decimal ns)
@@ -151,7 +152,8 @@ job_line_words second third others a b c ns small_a small_b small_c small =
     (simp append_assoc) from_a
 
 -- a row is plain
-pub job_line_plain : (second third others a b c : ℕ) (ns : List ℕ) → a < 2 ^ 32 → b < 2 ^ 32 → c < 2 ^ 32
+pub job_line_plain : (second third others a b c : ℕ) (ns : List ℕ) → a < 2 ^ 32 → b < 2 ^ 32
+    → c < 2 ^ 32
     → AreSmall ns
     → is_plain (job_line second third others a b c ns) ≡ true
 job_line_plain second third others a b c ns small_a small_b small_c small =
@@ -162,7 +164,8 @@ job_line_plain second third others a b c ns small_a small_b small_c small =
     (column second b) (column third c ++ list) (placed_plain second b small_b) from_c in
     let from_a = both_plain (placed 4 a) (column second b ++ (column third c ++ list))
     (placed_plain 4 a small_a) from_b in
-    let same : placed 4 a ++ (column second b ++ (column third c ++ list)) ≡ job_line second third others
+    let same : placed 4 a ++ (column second b ++ (column third c ++ list))
+    ≡ job_line second third others
     a b c ns = simp append_assoc in
     subst (λ bytes. is_plain bytes ≡ true) same from_a
   where
@@ -176,5 +179,6 @@ pub job_line_speaks : (second third others a b c : ℕ) (ns : List ℕ) → a < 
 job_line_speaks second third others a b c ns small =
     let pad = replicate (4 - length (decimal a)) 32 in
     let after = column second b ++ (column third c ++ flat_map (column others) ns) in
-    let same : pad ++ (decimal a ++ after) ≡ job_line second third others a b c ns = simp append_assoc in
+    let same : pad ++ (decimal a ++ after) ≡ job_line second third others a b c ns = simp
+    append_assoc in
     subst (λ bytes. speaks bytes ≡ true) same (number_speaks pad after a (omega arith))

@@ -18,9 +18,11 @@ is_newline byte = byte == 10
 abbrev pub line_len : List ℕ → ℕ
 line_len bytes = position_or_len is_newline bytes
 
--- the first line: the bytes before the first LF without a CR just before it, or all where there is no LF
+-- the first line: the bytes before the first LF without a CR just before it, or all where there is
+-- no LF
 unfoldable pub line_text : List ℕ → List ℕ
-line_text bytes = if nat_lt (line_len bytes) (length bytes) then strip_last 13 (take (line_len bytes) bytes) else bytes
+line_text bytes = if nat_lt (line_len bytes) (length bytes) then strip_last 13
+    (take (line_len bytes) bytes) else bytes
 
 -- the lines that begin in the bytes, of which the first has the offset `at`; `inside` says that a
 -- line goes on there
@@ -28,7 +30,8 @@ unfoldable pub lines_from : Bool → ℕ → List ℕ → List Line
 lines_from inside at [] = []
 lines_from inside at (byte ∷ rest) =
     if inside then lines_from (not (is_newline byte)) (suc at) rest
-    else record { text = line_text (byte ∷ rest); at = at } ∷ lines_from (not (is_newline byte)) (suc at) rest
+    else record { text = line_text (byte ∷ rest); at = at } ∷ lines_from (not (is_newline byte))
+    (suc at) rest
 
 -- no byte but white space and this one
 abbrev pub has_only : ℕ → List ℕ → Bool
@@ -53,9 +56,11 @@ is_colon byte = byte == 58
 abbrev pub has_colon : Line → Bool
 has_colon line = list_any is_colon line.text
 
--- the key of these bytes: what stands before the first colon, or all, in small letters and without white space
+-- the key of these bytes: what stands before the first colon, or all, in small letters and without
+-- white space
 abbrev pub key_in : List ℕ → List ℕ
-key_in text = map to_ascii_lowercase (filter (λ byte. not (is_white byte)) (before_first is_colon text))
+key_in text = map to_ascii_lowercase (filter (λ byte. not (is_white byte))
+    (before_first is_colon text))
 
 -- whether a key begins with a word
 unfoldable pub begins_with : List ℕ → List ℕ → Bool
@@ -93,7 +98,8 @@ after_colon line = after_first is_colon line.text
 
 -- the tokens after the first colon, with their offsets in the text
 unfoldable pub values_in : Line → List Token
-values_in line = map (moved (line.at + (length line.text - length (after_colon line)))) (tokens_of (after_colon line))
+values_in line = map (moved (line.at + (length line.text - length (after_colon line))))
+    (tokens_of (after_colon line))
 
 -- the first token, if there is one
 abbrev pub first_of : List Token → Option Token

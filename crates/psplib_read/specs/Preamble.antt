@@ -1,7 +1,8 @@
--- The preamble: the lines before the head of the precedence relations. Of the lines with a colon some
+-- The preamble: the lines before the head of the precedence relations. Of the lines with a colon
+-- some
 -- are read, the first of each topic alone; all others are passed over.
 use Rattle.std.specs.Prelude.{ℕ, Bool, true, false, not, ◌==◌, if◌then◌else◌, codes, List, [], ◌∷◌, Option, None, Some, Result, Ok, Err}
-use Rattle.rc_edge.specs.declared.due.Number.{Number}
+use Rattle.rc_edge.specs.declared.text_number.Number.{Number}
 use Rattle.rc_edge.specs.declared.text_fault.TextFault.{TextFault}
 use Rattle.rc_edge.specs.declared.text_fault.TextKind.TheVariants.{NotANumber, Expected, ManyProjects, NotRenewable, Ended}
 use Rattle.rc_edge.specs.declared.text_fault.Item.TheVariants as items
@@ -43,7 +44,13 @@ topic_of line =
 
 -- no line was read yet
 abbrev pub nothing_read : Preamble
-nothing_read = record { projects = false; jobs = None; renewable = None; nonrenewable = false; doubly_constrained = false }
+nothing_read = record {
+  projects = false;
+  jobs = None;
+  renewable = None;
+  nonrenewable = false;
+  doubly_constrained = false;
+}
 
 abbrev pub is_given : Option ℕ → Bool
 is_given None = false
@@ -109,7 +116,8 @@ with_lines size lines head = Ok (head, record { size = size; tokens = []; lines 
 unfoldable pub preamble_in : ℕ → Preamble → List Line → Result (Head × Left) TextFault
 preamble_in size preamble [] = Err (record { kind = Ended; at = size })
 preamble_in size preamble (line ∷ lines) =
-    if ends_preamble line then head_of preamble.jobs preamble.renewable (first_at line) >>= with_lines size lines
+    if ends_preamble line then head_of preamble.jobs preamble.renewable (first_at line) >>=
+    with_lines size lines
     else with_line line preamble >>= λ next. preamble_in size next lines
 
 -- n and K, and what is left after the preamble and the head of the precedence relations

@@ -1,23 +1,28 @@
 -- The `.sm` format of PSPLIB, single mode: a preamble, and three sections of numbers.
 --
--- The preamble gives n and K. A section begins with its head, a line; the line after it is a title, which is
--- passed over unless it begins with a digit. The numbers follow, whatever the line ends. The precedence relations
--- have for each job from 1 to n its number, its modes, the number of its successors and those; the requests its
--- number, its mode, its duration and K demands; the availabilities K capacities. Nothing follows. Blank lines and
+-- The preamble gives n and K. A section begins with its head, a line; the line after it is a title,
+-- which is
+-- passed over unless it begins with a digit. The numbers follow, whatever the line ends. The
+-- precedence relations
+-- have for each job from 1 to n its number, its modes, the number of its successors and those; the
+-- requests its
+-- number, its mode, its duration and K demands; the availabilities K capacities. Nothing follows.
+-- Blank lines and
 -- rulers are passed over everywhere. The fault is the first in order of the text, at its token.
 use Rattle.std.specs.Prelude.{ℕ, ◌+◌, not, ◌==◌, if◌then◌else◌, codes, List, [], length, map, Option, None, Some, Result, Ok, Err}
 use Rattle.std.specs.List.{flat_map, sum_by}
 use Rattle.rc_instance.specs.Project.{Project}
 use Rattle.rc_instance.specs.Parts.{made}
-use Rattle.rc_edge.specs.declared.due.Number.{Number}
+use Rattle.rc_edge.specs.declared.text_number.Number.{Number}
 use Rattle.rc_edge.specs.declared.text_fault.TextFault.{TextFault}
 use Rattle.rc_edge.specs.declared.text_fault.TextKind.{TextKind}
-use Rattle.rc_edge.specs.declared.text_fault.TextKind.TheVariants.{Expected, WrongJobNumber, MultiMode, Trailing, Ended, Instance}
+use Rattle.rc_edge.specs.declared.text_fault.TextKind.TheVariants.{Expected, WrongJobNumber, MultiMode, Trailing, Ended, TooManyChanges, ResourceOutOfRange, PeriodOutOfRange, NotRising, Instance}
 use Rattle.rc_edge.specs.declared.text_fault.Item.{Item}
 use Rattle.rc_edge.specs.declared.text_fault.Item.TheVariants.{Requests, Availabilities}
 use Rattle.rc_edge.specs.Tokens.{Token}
 use Rattle.rc_edge.specs.Grammar.{◌>>=◌, refuse_if, more}
 use Rattle.rc_edge.specs.Entries as entries
+use Rattle.rc_edge.specs.Source.{next_capacity, demand_due, duration_due, successor_due}
 use Rattle.psplib_read.specs.declared.preamble.Head.{Head}
 use Rattle.psplib_read.specs.Lines.{Line, says, first_at, begins_with_digit}
 use Rattle.psplib_read.specs.Left.{Left, whole, next_line, next_in_line, next_token, past_line}
@@ -46,36 +51,16 @@ job_due job left = do
   named ← same_due job WrongJobNumber left
   same_due 1 MultiMode named
 
--- a successor of a job
-unfoldable pub successor : Head → ℕ → Left → Result (ℕ × Left) TextFault
-successor head job left = do
-  number ← number_due left
-  successor ← entries.successor head.jobs job number.0
-  Ok (successor, number.1)
-
 -- the successors of a job
 unfoldable pub successors : Head → ℕ → Left → Result (List ℕ × Left) TextFault
 successors head job left = do
   named ← job_due job left
   count ← number_due named
-  more (λ _. successor head job) count.0.value [] count.1
+  more (λ _. successor_due number_due head.jobs job) count.0.value [] count.1
 
 -- those of the next job, after the lists found
 abbrev pub next_successors : Head → List (List ℕ) → Left → Result (List ℕ × Left) TextFault
 next_successors head found = successors head (length found + 1)
-
--- the duration of a job; those before it have the sum `before`
-unfoldable pub duration : ℕ → Left → Result (ℕ × Left) TextFault
-duration before left = do
-  number ← number_due left
-  duration ← entries.duration before number.0
-  Ok (duration, number.1)
-
--- a demand, which may be any number
-unfoldable pub demand : Left → Result (ℕ × Left) TextFault
-demand left = do
-  number ← number_due left
-  Ok (number.0.value, number.1)
 
 -- what the text says of the work of a job
 pub record Request : Type 0 where
@@ -86,24 +71,13 @@ pub record Request : Type 0 where
 unfoldable pub request : Head → ℕ → ℕ → Left → Result (Request × Left) TextFault
 request head job before left = do
   named ← job_due job left
-  duration ← duration before named
-  demands ← more (λ _. demand) head.resources [] duration.1
+  duration ← duration_due number_due before named
+  demands ← more (λ _. demand_due number_due) head.resources [] duration.1
   Ok (record { duration = duration.0; demands = demands.0 }, demands.1)
 
 -- that of the next job, after those found
 abbrev pub next_request : Head → List Request → Left → Result (Request × Left) TextFault
 next_request head found = request head (length found + 1) (sum_by (λ r. r.duration) found)
-
--- the capacity of a resource
-unfoldable pub capacity : ℕ → Left → Result (ℕ × Left) TextFault
-capacity resource left = do
-  number ← number_due left
-  capacity ← entries.capacity resource number.0
-  Ok (capacity, number.1)
-
--- the capacity of the next resource, after those found
-abbrev pub next_capacity : List ℕ → Left → Result (ℕ × Left) TextFault
-next_capacity found = capacity (length found + 1)
 
 -- the line after the head of a section passed over, where it does not begin with a digit
 abbrev pub past_title_of : Left → Option (Line × Left) → Left
@@ -113,7 +87,8 @@ past_title_of left (Some next) = if begins_with_digit next.0 then next.1 else pa
 unfoldable pub past_title : Left → Left
 past_title left = past_title_of left (next_line left)
 
--- the next token is the first of a line whose key begins with a word; that line and the title after it are passed over
+-- the next token is the first of a line whose key begins with a word; that line and the title after
+-- it are passed over
 abbrev pub head_line : List ℕ → Item → ℕ → Option (Line × Left) → Result Left TextFault
 head_line word item size None = Err (record { kind = Ended; at = size })
 head_line word item size (Some next) = do
@@ -148,13 +123,14 @@ text_due left = do
   begun ← section_due (codes "requests/durations") Requests successors.1
   requests ← more (next_request head.0) head.0.jobs [] begun
   begun ← section_due (codes "resourceavailabilities") Availabilities requests.1
-  capacities ← more next_capacity head.0.resources [] begun
+  capacities ← more (next_capacity number_due) head.0.resources [] begun
   end ← nothing capacities.1
   Ok (record { capacities = capacities.0; requests = requests.0; successors = successors.0 })
 
 -- its instance
 abbrev pub project_of : Text → Project
-project_of text = made text.capacities (map (λ r. r.duration) text.requests) (flat_map (λ r. r.demands) text.requests) text.successors
+project_of text = made text.capacities (map (λ r. r.duration) text.requests)
+    (flat_map (λ r. r.demands) text.requests) text.successors
 
 -- the instance of the bytes of a text, or the first fault
 unfoldable pub read_instance : List ℕ → Result Project TextFault
@@ -162,7 +138,11 @@ read_instance bytes = do
   text ← text_due (whole bytes)
   Ok (project_of text)
 
--- the kinds of the faults of such texts, and want of memory: of the limits of instances memory is none
+-- the kinds of the faults of such texts, and want of memory
 abbrev pub IsKind : TextKind → Type 0
+IsKind TooManyChanges = ⊥
+IsKind ResourceOutOfRange = ⊥
+IsKind PeriodOutOfRange = ⊥
+IsKind NotRising = ⊥
 IsKind (Instance fault) = entries.IsLimit fault
 IsKind kind = Unit {0}

@@ -68,7 +68,8 @@ relations project =
 -- a job, its one mode, its duration, and its demands
 unfoldable pub request : Project → ℕ → List ℕ
 request project a =
-    placed 4 a ++ column 5 1 ++ column 8 (duration project a) ++ flat_map (column 7) (demands_of project a)
+    placed 4 a ++ column 5 1 ++ column 8 (duration project a)
+    ++ flat_map (column 7) (demands_of project a)
 
 -- the durations and demands, a line for each job
 unfoldable pub requests : Project → List (List ℕ)
@@ -90,7 +91,8 @@ availabilities project =
 
 -- all lines
 abbrev pub sm_lines : Project → List (List ℕ)
-sm_lines project = preamble project ++ relations project ++ requests project ++ availabilities project
+sm_lines project = preamble project ++ relations project ++ requests project
+    ++ availabilities project
 
 -- the text of an instance
 unfoldable pub sm_text : Project → List ℕ

@@ -17,7 +17,6 @@
 //! is walked once, line by line, by a [`cursor::Cursor`].
 #![tactic(auto)]
 
-mod capacities;
 mod cursor;
 mod heads;
 mod laws;
@@ -31,7 +30,7 @@ mod successors;
 mod token;
 mod write;
 
-pub use laws::written_text_is_read_back;
+pub use laws::{preamble_tells_topics, written_text_is_read_back};
 pub use read::read_sm;
 pub use write::write_sm;
 

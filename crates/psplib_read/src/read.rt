@@ -5,15 +5,14 @@ ghost use Rattle.psplib_read.specs.Left.{whole};
 ghost use Rattle.psplib_read.specs.Sm.{text_due, read_instance, IsKind};
 ghost use Rattle.psplib_read.specs.View.{HoldsText};
 
-use crate::capacities::read_capacities;
 use crate::cursor::Cursor;
 use crate::heads::{section_due, skip_title};
 use crate::number::end_due;
 use crate::preamble::read_head;
 use crate::requests::read_requests;
 use crate::successors::read_all_successors;
-use rc_edge::{Item, TextFault, TextKind};
-use rc_instance::{Instance, InstanceFault, Parts};
+use rc_edge::{Item, TextFault, built, read_capacities};
+use rc_instance::{Instance, Parts};
 use std::alloc::Global;
 
 /// The instance of a text in the `.sm` format of PSPLIB, or the first fault of the text.
@@ -28,17 +27,7 @@ pub fn read_sm(alloc: Global, bytes: &[u8]) -> Result<Instance, TextFault>
     ensures kinds { IfErr result (λ fault. IsKind fault.kind) }
 {
     let parts = read_parts(alloc, bytes)?;
-    match Instance::build(alloc, parts) {
-        Ok(instance) => Ok(instance),
-        Err(fault) => {
-            // Each limit was tested at the number that would pass it.
-            prove!(matches!(fault, InstanceFault::Memory));
-            Err(TextFault {
-                kind: TextKind::Memory,
-                at: 0,
-            })
-        }
-    }
+    built(alloc, parts)
 }
 
 /// The parts that a whole text tells.

@@ -1,24 +1,14 @@
-ghost use Rattle.std.specs.Prelude.{◌≡◌, ◌+◌, ◌≤◌, [], ◌∷◌, ◌++◌, List, IfOk, OnOk};
+ghost use Rattle.std.specs.Prelude.{◌≡◌, ◌+◌, ◌≤◌, [], ◌∷◌, ◌++◌, IfOk};
 ghost use Rattle.rc_instance.specs.declared.limits.TheConstants.{MAX_DURATION_SUM};
-ghost use Rattle.rc_edge.specs.Grammar.{GivesOrMemory, StandsOrMemory, more};
-ghost use Rattle.psplib_read.specs.Sm.{Request as Said, demand, request, next_request};
-ghost use Rattle.psplib_read.specs.View.{view, Holds};
+ghost use Rattle.rc_edge.specs.Grammar.{StandsOrMemory, more};
+ghost use Rattle.psplib_read.specs.Sm.{request, next_request};
+ghost use Rattle.psplib_read.specs.View.{Holds, Gains};
 
 use crate::cursor::Cursor;
-use crate::number::{job_due, read_demand, read_duration};
+use crate::number::job_due;
 use crate::preamble::Head;
-use rc_edge::TextFault;
-use std::alloc::{AllocError, Global};
-
-/// What a text says of the work of a job.
-#[derive(Debug, Drop)]
-pub struct Request {
-    /// The duration, in periods.
-    pub duration: u32,
-
-    /// The demand for each resource.
-    pub demands: Vec<u32>,
-}
+use rc_edge::{TextFault, push_demands, read_duration};
+use std::alloc::Global;
 
 /// The work of each job, in order.
 #[derive(Debug, Drop)]
@@ -41,51 +31,29 @@ pub fn read_requests(alloc: Global, cursor: &mut Cursor, head: Head) -> Result<R
     };
     let mut sum = 0;
     for index in 0..head.jobs {
-        let request = read_request(alloc, cursor, head, index + 1, sum)?;
-        sum += request.duration;
-        push_request(&mut requests, request)?;
+        sum += read_request(cursor, head, index + 1, sum, &mut requests)?;
     }
     Ok(requests)
 }
 
-/// The work of a job; those before it have durations of the sum `before`.
+/// Puts the work of a job with those before it, and answers its duration, in periods; those before
+/// it have durations of the sum `before`.
 #[tactic(auto, unfolding(crate::specs::Sm::request))]
 fn read_request(
-    alloc: Global,
     cursor: &mut Cursor,
     head: Head,
     job: u32,
     before: u32,
-) -> Result<Request, TextFault>
-    ensures reads { GivesOrMemory (λ request. (view request, cursor.new)) result
+    requests: &mut Requests,
+) -> Result<u32, TextFault>
+    ensures reads { StandsOrMemory (λ duration read. (duration ≡ read.0.duration)
+        × (read.1 ≡ cursor.new) × Gains read.0 requests.old requests.new) result
         (request head job before cursor.old) }
-    ensures short { IfOk result (λ request. before + request.duration ≤ MAX_DURATION_SUM) }
+    ensures short { IfOk result (λ duration. before + duration ≤ MAX_DURATION_SUM) }
 {
     job_due(cursor, job)?;
     let duration = read_duration(cursor, before)?;
-    let demands = read_demands(alloc, cursor, head.resources)?;
-    Ok(Request { duration, demands })
-}
-
-/// So many demands.
-fn read_demands(alloc: Global, cursor: &mut Cursor, count: u32) -> Result<Vec<u32>, TextFault>
-    ensures { GivesOrMemory (λ list. (list.items, cursor.new)) result
-        (more (λ _. demand) count [] cursor.old) }
-{
-    let mut demands = Vec::new(alloc);
-    for _ in 0..count {
-        let demand = read_demand(cursor)?;
-        demands.push(demand)?;
-    }
-    Ok(demands)
-}
-
-/// The same requests with one more.
-fn push_request(requests: &mut Requests, request: Request) -> Result<(), AllocError>
-    ensures { OnOk result ((found : List Said) → Holds found requests.old
-        → Holds (found ++ view request ∷ []) requests.new) }
-{
-    requests.durations.push(request.duration)?;
-    requests.demands.extend_from_slice(&request.demands)?;
-    Ok(())
+    push_demands(cursor, head.resources, &mut requests.demands)?;
+    requests.durations.push(duration)?;
+    Ok(duration)
 }

@@ -1,11 +1,11 @@
 ghost use Rattle.std.specs.Prelude.{[], map};
 ghost use Rattle.rc_edge.specs.Grammar.{GivesOrMemory, more};
-ghost use Rattle.psplib_read.specs.Sm.{successor, successors, next_successors};
+ghost use Rattle.psplib_read.specs.Sm.{successors, next_successors};
 
 use crate::cursor::Cursor;
-use crate::number::{job_due, number_due, read_successor};
+use crate::number::job_due;
 use crate::preamble::Head;
-use rc_edge::TextFault;
+use rc_edge::{NumberSource, TextFault};
 use std::alloc::Global;
 
 /// The successors of each job, in order.
@@ -36,25 +36,6 @@ fn read_successors(
     ensures { GivesOrMemory (λ list. (list.items, cursor.new)) result (successors head job cursor.old) }
 {
     job_due(cursor, job)?;
-    let count = number_due(cursor)?;
-    read_list(alloc, cursor, head, job, count.value)
-}
-
-/// So many successors of a job.
-fn read_list(
-    alloc: Global,
-    cursor: &mut Cursor,
-    head: Head,
-    job: u32,
-    count: u32,
-) -> Result<Vec<u32>, TextFault>
-    ensures { GivesOrMemory (λ list. (list.items, cursor.new)) result
-        (more (λ _. successor head job) count [] cursor.old) }
-{
-    let mut list = Vec::new(alloc);
-    for _ in 0..count {
-        let successor = read_successor(cursor, head, job)?;
-        list.push(successor)?;
-    }
-    Ok(list)
+    let count = cursor.number()?.value;
+    rc_edge::read_successors(alloc, cursor, count, head.jobs, job)
 }

@@ -2,7 +2,7 @@
 use Rattle.std.proofs.Common.{◌≡◌, ℕ, ◌+◌, ◌≤◌, Bool, true, false, ◌||◌, nat_lt, nat_eq, Result, Ok, refl, subst, arith}
 use Rattle.std.proofs.lemmas.Bool.{ltb-false, eqb-false}
 use Rattle.rc_instance.specs.declared.limits.TheConstants.{MAX_ACTIVITIES, MAX_RESOURCES, MAX_CAPACITY, MAX_DURATION_SUM}
-use Rattle.rc_edge.specs.declared.due.Number.{Number}
+use Rattle.rc_edge.specs.declared.text_number.Number.{Number}
 use Rattle.rc_edge.specs.declared.text_fault.TextFault.{TextFault}
 use Rattle.rc_edge.specs.declared.text_fault.TextKind.{TextKind}
 use Rattle.rc_edge.specs.Grammar.{◌>>=◌, refuse_if}

@@ -1,4 +1,5 @@
 pub mod SinkLaws
+pub mod CountLaws
 pub mod EntryLaws
 pub mod FaultLaws
 pub mod GrammarLaws
@@ -8,6 +9,7 @@ pub mod TokenLaws
 pub mod FetchLaws
 pub mod WrittenLaws
 pub mod ReadBackLaws
+pub mod SourceLaws
 pub mod RemadeLaws
 pub mod PlaceLaws
 pub mod NumberedLaws

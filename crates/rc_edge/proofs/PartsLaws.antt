@@ -1,13 +1,14 @@
 -- Lists within all limits have no fault.
-use Rattle.std.proofs.Common.{◌≡◌, ℕ, suc, ◌+◌, ◌*◌, ◌≤◌, false, nat_eq, Option, None, List, [], ◌∷◌, length, refl, All, arith}
+use Rattle.std.proofs.Common.{◌≡◌, ℕ, suc, ◌+◌, ◌*◌, ◌≤◌, false, nat_eq, Option, None, List, [], ◌∷◌, length, refl, inl, inr, All, arith}
 use Rattle.std.specs.List.{flat_map, sum}
 use Rattle.std.proofs.lemmas.List.{length-append}
 use Rattle.std.proofs.lemmas.Bool.{le-ltb, ne_eqb}
 use Rattle.rc_instance.specs.declared.limits.TheConstants.{MAX_ACTIVITIES, MAX_RESOURCES, MAX_CAPACITY, MAX_DURATION_SUM}
 use Rattle.rc_instance.specs.Lists.{IsUpTo}
-use Rattle.rc_instance.specs.Parts.{first_fault, large_capacity, wild_successor, wild_successor_of, Refuses}
+use Rattle.rc_instance.specs.Parts.{first_fault, large_capacity, wild_successor, wild_successor_of}
 use Rattle.rc_instance.specs.declared.parts.InstanceFault.{InstanceFault}
-use Rattle.rc_instance.specs.declared.parts.InstanceFault.TheVariants.{NoActivity, TooManyActivities, TooManyResources, CapacityTooLarge, SuccessorOutOfRange, TooLong, Memory}
+use Rattle.rc_instance.specs.declared.parts.InstanceFault.TheVariants.{Memory}
+use Rattle.rc_instance.specs.Results.{RefusesOr}
 
 All-rest : {X : Type 0} (P : X → Type 0) (x : X) (xs : List X) → All P (x ∷ xs) → All P xs
 All-rest P x xs all k d inside = all (suc k) d (omega arith)
@@ -55,14 +56,10 @@ no_fault capacities durations successors some few resources small within short =
     ) refl
 
 -- parts that pass no limit are refused for want of memory alone
-pub only_memory : (first : Option InstanceFault) (fault : InstanceFault) → first ≡ None → Refuses first fault → fault ≡ Memory
-only_memory first NoActivity none refused = absurd cc
-only_memory first (TooManyActivities n) none refused = absurd cc
-only_memory first (TooManyResources n) none refused = absurd cc
-only_memory first (CapacityTooLarge k c) none refused = absurd cc
-only_memory first (SuccessorOutOfRange a b) none refused = absurd cc
-only_memory first (TooLong sum) none refused = absurd cc
-only_memory first Memory none refused = refl
+pub only_memory : (first : Option InstanceFault) (fault : InstanceFault) → first ≡ None
+    → RefusesOr Memory first fault → fault ≡ Memory
+only_memory first fault none (inl refused) = absurd cc
+only_memory first fault none (inr memory) = memory
 
 -- so many numbers in all, where each thing has k
 pub length-flat_map : {X : Type 0} (numbers : X → List ℕ) (k : ℕ) (things : List X) → All (λ x. length (numbers x) ≡ k) things

@@ -27,10 +27,6 @@ pub record Reads {X Left Part : Type 0} (Shows : Left → List Part → Type 0)
   pub reads : (left : Left) (later : List Part) → Shows left (parts ++ later)
       → Leaves Shows (one left) x later
 
--- tokens show their words
-abbrev pub HaveTexts : List Token → List (List ℕ) → Type 0
-HaveTexts tokens words = texts tokens ≡ words
-
 -- a number that is due, at whatever offset
 pub record IsDue (size : ℕ) (tokens : List Token) (n : ℕ) (later : List (List ℕ)) : Type 0 where
   pub at : ℕ

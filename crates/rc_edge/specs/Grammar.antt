@@ -1,7 +1,9 @@
 -- What the grammars of the texts are made of. A thing of a text is a function from the tokens that
 -- are left to its value and the tokens after it, or to the first fault.
-use Rattle.std.specs.Prelude.{◌≡◌, ◌⊎◌, ℕ, zero, suc, Bool, true, false, List, [], ◌∷◌, ◌++◌, Result, Ok, Err}
-use Rattle.rc_edge.specs.declared.due.Number.{Number}
+use Rattle.std.specs.Prelude.{ℕ, zero, suc, Bool, true, false, List, [], ◌∷◌, ◌++◌, Result, Ok, Err}
+pub use Rattle.rc_instance.specs.Results.{◌>>=◌, Gives}
+use Rattle.rc_instance.specs.Results.{GivesOr, StandsOr}
+use Rattle.rc_edge.specs.declared.text_number.Number.{Number}
 use Rattle.rc_edge.specs.declared.number.NumberFault.{NumberFault}
 use Rattle.rc_edge.specs.declared.number.NumberFault.TheVariants as numbers
 use Rattle.rc_edge.specs.declared.text_fault.TextFault.{TextFault}
@@ -9,12 +11,6 @@ use Rattle.rc_edge.specs.declared.text_fault.TextKind.{TextKind}
 use Rattle.rc_edge.specs.declared.text_fault.TextKind.TheVariants.{NotANumber, NumberTooLarge, Ended, Memory}
 use Rattle.rc_edge.specs.Tokens.{Token}
 use Rattle.rc_edge.specs.Numbers.{number_of}
-
--- one thing after another, up to the first fault
-infixl 10 ◌>>=◌
-abbrev pub ◌>>=◌ : {A B : Type 0} → Result A TextFault → (A → Result B TextFault) → Result B TextFault
-(Ok x) >>= f = f x
-(Err fault) >>= f = Err fault
 
 -- a fault of this kind at this offset, where the test holds
 abbrev pub refuse_if : Bool → TextKind → ℕ → Result (Unit {0}) TextFault
@@ -40,21 +36,14 @@ more one (suc n) found left = do
   next ← one found left
   more one n (found ++ next.0 ∷ []) next.1
 
--- what a call gave is what the grammar says
-abbrev pub Gives : {X Y : Type 0} → (X → Y) → Result X TextFault → Result Y TextFault → Type 0
-Gives view (Ok x) read = read ≡ Ok (view x)
-Gives view (Err fault) read = read ≡ Err fault
-
 -- want of memory, as a reader answers it
 abbrev pub out_of_memory : TextFault
 out_of_memory = record { kind = Memory; at = 0 }
 
 -- what a call that takes memory gave is what the grammar says, unless memory ran out
 abbrev pub GivesOrMemory : {X Y : Type 0} → (X → Y) → Result X TextFault → Result Y TextFault → Type 0
-GivesOrMemory view (Ok x) read = read ≡ Ok (view x)
-GivesOrMemory view (Err fault) read = (read ≡ Err fault) ⊎ (fault ≡ out_of_memory)
+GivesOrMemory view result read = GivesOr out_of_memory view result read
 
 -- the same where a relation says what the call's value stands for
 abbrev pub StandsOrMemory : {X Y : Type 0} → (X → Y → Type 0) → Result X TextFault → Result Y TextFault → Type 0
-StandsOrMemory {Y = Y} Stands (Ok x) read = (y : Y) × (read ≡ Ok y) × Stands x y
-StandsOrMemory Stands (Err fault) read = (read ≡ Err fault) ⊎ (fault ≡ out_of_memory)
+StandsOrMemory Stands result read = StandsOr out_of_memory Stands result read

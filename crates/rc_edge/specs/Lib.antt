@@ -7,6 +7,8 @@ pub mod MemSink
 pub mod Tokens
 pub mod Numbers
 pub mod TextFault
+pub mod FaultWords
 pub mod Grammar
 pub mod Entries
+pub mod Source
 pub mod Written

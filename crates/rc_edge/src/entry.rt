@@ -2,8 +2,8 @@ ghost use Rattle.std.specs.Prelude.{◌≡◌, ◌+◌, ◌≤◌, IfOk};
 ghost use Rattle.rc_instance.specs.declared.limits.TheConstants.{MAX_DURATION_SUM};
 ghost use Rattle.rc_edge.specs.Entries.{activity_count, resource_count, capacity, duration, successor};
 
-use crate::due::{Number, refuse_if};
 use crate::text_fault::{TextFault, TextKind};
+use crate::text_number::{Number, refuse_if};
 use rc_instance::InstanceFault;
 use rc_instance::limits::{MAX_ACTIVITIES, MAX_CAPACITY, MAX_DURATION_SUM, MAX_RESOURCES};
 

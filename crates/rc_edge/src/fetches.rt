@@ -1,13 +1,14 @@
 ghost use Rattle.std.specs.Prelude.{◌≡◌, ◌^◌, ◌<◌, ◌≤◌, length, take, vec_len, All, slice_get};
 ghost use Rattle.std.specs.Prelude.{Some, IfOk, IfErr, OnOk, IfSome, IsSomeAnd, MatchResult};
 ghost use Rattle.rc_edge.specs.Files.{file_of, Counts, SameCounts, NoneFalls};
-ghost use Rattle.rc_edge.specs.Fetches.{IsBeyond, AreFiles, AreWithin, HasReason};
+ghost use Rattle.rc_edge.specs.Faults.{one_more};
+ghost use Rattle.rc_edge.specs.Fetches.{IsBeyond, AreFiles, AreWithin, HasReason, MakesFetches};
 ghost use Rattle.rc_edge.specs.declared.files.FetchFault.TheVariants.{TooLarge};
 
 use crate::files::{FetchFault, Files};
 use std::alloc::Global;
 
-/// The bytes of one file, at most `limit`.
+/// The bytes of one file, at most `limit`, by one fetch.
 pub fn fetch_one<F: Files>(
     alloc: Global,
     name: &str,
@@ -17,6 +18,7 @@ pub fn fetch_one<F: Files>(
     requires { limit < 2 ^ 31 }
     ensures told { F.told files.new ≡ F.told files.old }
     ensures failing { F.failing files.new ≡ F.failing files.old }
+    ensures fetches { F.fetches files.new ≡ one_more (F.fetches files.old) }
     ensures counts { Counts name.now (F.faults files.old) (F.faults files.new)
         (F.long files.old) (F.long files.new) result }
     ensures length { IfOk result (λ text. length text.items ≤ limit) }
@@ -29,7 +31,7 @@ pub fn fetch_one<F: Files>(
     Ok(text)
 }
 
-/// The bytes of several files, in the order of their names, each at most `limit`.
+/// The bytes of several files, in the order of their names, each at most `limit` and by one fetch.
 ///
 /// It stops at the first name that is refused, and answers its place, counted from 0, and why.
 pub fn fetch_all<F: Files>(
@@ -41,6 +43,7 @@ pub fn fetch_all<F: Files>(
     requires { limit < 2 ^ 31 }
     ensures told { F.told files.new ≡ F.told files.old }
     ensures failing { F.failing files.new ≡ F.failing files.old }
+    ensures fetches { MakesFetches (length names.now) (F.fetches files.old) (F.fetches files.new) result }
     ensures faults_stay { NoneFalls (F.faults files.old) (F.faults files.new) }
     ensures long_stay { NoneFalls (F.long files.old) (F.long files.new) }
 

@@ -1,8 +1,10 @@
 ghost use Rattle.std.specs.Prelude.{◌≡◌, ℕ, ◌^◌, ◌<◌, List, Option, None, IfSome};
-ghost use Rattle.rc_edge.specs.Faults.{Rose};
+ghost use Rattle.rc_edge.specs.Faults.{Rose, one_more};
 ghost use Rattle.rc_edge.specs.Files.{file_of, Counts, Takes, Fetches};
 
 use std::alloc::AllocError;
+use std::error::Error;
+use std::fmt;
 
 /// Why a fetch gave no file.
 #[derive(Clone, Copy, Debug, PartialEq, Eq)]
@@ -27,6 +29,23 @@ impl From<AllocError> for FetchFault {
     }
 }
 
+impl fmt::Display for FetchFault {
+    ghost use Rattle.std.specs.Prelude.{Some};
+    ghost use Rattle.rc_edge.specs.FaultWords.{fetch_words};
+
+    ghost output = { λ fault. Some (fetch_words fault) };
+
+    fn fmt<W: fmt::Write>(&self, f: &mut fmt::Formatter<W>) -> fmt::Result {
+        f.write_str(match self {
+            FetchFault::Failed => "cannot read",
+            FetchFault::TooLarge => "too large",
+            FetchFault::Memory => "out of memory",
+        })
+    }
+}
+
+impl Error for FetchFault {}
+
 /// Named files that bytes are fetched from.
 ///
 /// A count that reached the end of `u64` stands still there, and counts as risen.
@@ -40,10 +59,13 @@ pub trait Files {
     /// How many long files there were so far that concern a name.
     ghost long: { Self → List ℕ → ℕ };
 
+    /// How many fetches were made so far.
+    ghost fetches: { Self → ℕ };
+
     /// The numbers of the calls that fail on purpose, where they are told. No call changes them.
     ghost failing: { Self → Option (List ℕ) } = { λ _. None };
 
-    /// Overwrites `into` with the bytes of the file `name`, at most `limit`.
+    /// One fetch: it overwrites `into` with the bytes of the file `name`, at most `limit`.
     ///
     /// At `TooLarge` the first `limit + 1` bytes stand in `into`; at the other faults some bytes
     /// that are of no use. At `Failed` and `TooLarge` the counts of other names may rise too.
@@ -51,6 +73,7 @@ pub trait Files {
         requires { limit < 2 ^ 31 }
         ensures told { told self.new ≡ told self.old }
         ensures failing { failing self.new ≡ failing self.old }
+        ensures fetches { fetches self.new ≡ one_more (fetches self.old) }
         ensures counts { Counts name.now (faults self.old) (faults self.new)
             (long self.old) (long self.new) result }
         ensures length { Takes limit into.new.items result }

@@ -22,31 +22,33 @@
 //! with a text is a [`TextFault`].
 #![tactic(auto)]
 
-mod due;
 mod entry;
 mod fetches;
 mod files;
 mod gate;
+mod instance;
 mod laws;
 mod mem_files;
 mod mem_sink;
 mod number;
-mod numbers;
+mod planned;
 mod real_files;
 mod real_sinks;
 mod sink;
+mod source;
 #[cfg(test)]
 mod tests;
 mod text_fault;
+mod text_number;
 #[cfg(test)]
 mod text_tests;
 mod token;
 
-pub use due::{Number, number_due, refuse_if};
 pub use entry::{activity_count, capacity, duration, resource_count, successor};
 pub use fetches::{fetch_all, fetch_one};
 pub use files::{FetchFault, Files};
 pub use gate::{Gate, NoGate, Point};
+pub use instance::built;
 pub use laws::tokens_from_the_start;
 pub use mem_files::MemFiles;
 pub use mem_sink::MemSink;
@@ -54,5 +56,9 @@ pub use number::{NumberFault, read_number};
 pub use real_files::RealFiles;
 pub use real_sinks::{RealNote, RealOut};
 pub use sink::{Sink, SinkFault, put_all};
+pub use source::{
+    NumberSource, push_demands, read_capacities, read_capacity, read_duration, read_successors,
+};
 pub use text_fault::{Item, TextFault, TextKind};
+pub use text_number::{Number, number_due, refuse_if};
 pub use token::{is_white, next_token};

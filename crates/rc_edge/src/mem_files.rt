@@ -2,7 +2,7 @@ ghost use Rattle.std.specs.Prelude.{◌≡◌, ◌^◌, ◌<◌, Some, vec_len, 
 ghost use Rattle.rc_edge.specs.Files.{file_of, pairs_of};
 
 use crate::files::{FetchFault, Files};
-use crate::numbers::is_planned;
+use crate::planned::is_planned;
 
 /// Files in memory, some of whose fetches fail by their number. It tells its files.
 #[derive(Debug, Drop)]
@@ -41,9 +41,9 @@ impl MemFiles {
 }
 
 impl Files for MemFiles {
-    ghost use Rattle.rc_edge.specs.Faults.{Rose};
+    ghost use Rattle.rc_edge.specs.Faults.{Rose, one_more};
     ghost use Rattle.rc_edge.specs.Files.{Counts, Takes, Fetches};
-    ghost use Rattle.rc_edge.specs.MemFiles.{contents_of, failing_of, faults_of, long_of};
+    ghost use Rattle.rc_edge.specs.MemFiles.{contents_of, failing_of, calls_of, faults_of, long_of};
     ghost use Rattle.rc_edge.specs.MemFiles.{fault_next, Answers, Advances};
 
     ghost told = { λ f. Some (contents_of f) };
@@ -52,12 +52,15 @@ impl Files for MemFiles {
 
     ghost long = { λ f _. long_of f };
 
+    ghost fetches = { calls_of };
+
     ghost failing = { λ f. Some (failing_of f) };
 
     fn fetch(&mut self, name: &str, limit: usize, into: &mut Vec<u8>) -> Result<(), FetchFault>
         requires { limit < 2 ^ 31 }
         ensures told { contents_of self.new ≡ contents_of self.old }
         ensures failing { failing_of self.new ≡ failing_of self.old }
+        ensures fetches { calls_of self.new ≡ one_more (calls_of self.old) }
         ensures counts { Counts name.now (faults_of self.old) (faults_of self.new)
             (λ _. long_of self.old) (λ _. long_of self.new) result }
         ensures length { Takes limit into.new.items result }

@@ -1,6 +1,6 @@
 ghost use Rattle.std.specs.Prelude.{◌≡◌, ◌<◌, ◌≤◌, Some, IfOk, vec_len, vec_capacity};
 
-use crate::numbers::is_planned;
+use crate::planned::is_planned;
 use crate::sink::{Sink, SinkFault};
 use rc_instance::Memory;
 use std::alloc::Global;

@@ -3,6 +3,9 @@ ghost use Rattle.std.specs.List.{list_all};
 ghost use Rattle.std.specs.Char.{is_ascii_digit};
 ghost use Rattle.rc_edge.specs.Numbers.{is_numeral, number_of};
 
+use std::error::Error;
+use std::fmt;
+
 /// Why a token is no number of a text.
 #[derive(Clone, Copy, Debug, PartialEq, Eq)]
 pub enum NumberFault {
@@ -12,6 +15,22 @@ pub enum NumberFault {
     /// It is all digits, and its value is above 4,294,967,295.
     NumberTooLarge,
 }
+
+impl fmt::Display for NumberFault {
+    ghost use Rattle.std.specs.Prelude.{Some};
+    ghost use Rattle.rc_edge.specs.FaultWords.{number_words};
+
+    ghost output = { λ fault. Some (number_words fault) };
+
+    fn fmt<W: fmt::Write>(&self, f: &mut fmt::Formatter<W>) -> fmt::Result {
+        f.write_str(match self {
+            NumberFault::NotANumber => "not a number",
+            NumberFault::NumberTooLarge => "number too large",
+        })
+    }
+}
+
+impl Error for NumberFault {}
 
 /// The number that a token spells in decimal digits. Leading zeros are allowed.
 pub fn read_number(token: &[u8]) -> Result<u32, NumberFault>

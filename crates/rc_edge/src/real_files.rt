@@ -11,10 +11,11 @@ const CHUNK: usize = 4096;
 
 /// The real file system, whose name `-` is standard input. It tells nothing.
 ///
-/// Its counts serve all names alike: one of the errors of the system, and one of the long files.
+/// Its counts serve all names alike: of the fetches, of the errors of the system, and of the long files.
 #[derive(Drop)]
 pub struct RealFiles<'r, R> {
     rt: &'r R,
+    fetches: u64,
     faults: u64,
     long: u64,
 }
@@ -22,11 +23,13 @@ pub struct RealFiles<'r, R> {
 impl<'r, R: rt::Files + Input> RealFiles<'r, R> {
     /// The files that this runtime reaches.
     pub fn new(rt: &'r R) -> Self
+        ensures fetches { ⟦<RealFiles<'r, R> as Files>⟧.fetches result ≡ 0 }
         ensures faults { (name : List ℕ) → ⟦<RealFiles<'r, R> as Files>⟧.faults result name ≡ 0 }
         ensures long { (name : List ℕ) → ⟦<RealFiles<'r, R> as Files>⟧.long result name ≡ 0 }
     {
         RealFiles {
             rt,
+            fetches: 0,
             faults: 0,
             long: 0,
         }
@@ -36,12 +39,15 @@ impl<'r, R: rt::Files + Input> RealFiles<'r, R> {
 impl<R: rt::Files + Input> Files for RealFiles<'_, R> {
     ghost told = { λ _. None };
 
+    ghost fetches = { λ f. f.fetches };
+
     ghost faults = { λ f _. f.faults };
 
     ghost long = { λ f _. f.long };
 
     fn fetch(&mut self, name: &str, limit: usize, into: &mut Vec<u8>) -> Result<(), FetchFault> {
         into.clear();
+        self.fetches = self.fetches.saturating_add(1);
         let outcome = if name == "-" {
             fill(self.rt.reader(), limit, into)
         } else {

@@ -1,12 +1,30 @@
 ghost use Rattle.std.specs.Prelude.{◌≡◌, ℕ, List, Option, None, OnOk, OnErr};
 ghost use Rattle.rc_edge.specs.Sink.{Gains, GainsPrefix, Puts, HasCause};
 
+use std::error::Error;
+use std::fmt;
+
 /// Why a sink did not take bytes.
 #[derive(Clone, Copy, Debug, PartialEq, Eq)]
 pub enum SinkFault {
     /// The put failed: the count of faults rose, and nothing of the piece was taken.
     Failed,
 }
+
+impl fmt::Display for SinkFault {
+    ghost use Rattle.std.specs.Prelude.{Some};
+    ghost use Rattle.rc_edge.specs.FaultWords.{sink_words};
+
+    ghost output = { λ fault. Some (sink_words fault) };
+
+    fn fmt<W: fmt::Write>(&self, f: &mut fmt::Formatter<W>) -> fmt::Result {
+        match self {
+            SinkFault::Failed => f.write_str("cannot write"),
+        }
+    }
+}
+
+impl Error for SinkFault {}
 
 /// What bytes are written to, piece by piece.
 ///

@@ -117,6 +117,17 @@ fn real_files_answer_by_name_and_limit(rt: HostRuntime) {
     }
 }
 
+#[test]
+fn standard_input_is_a_file(rt: HostRuntime) -> Result<(), Fail> {
+    let mut files = RealFiles::new(&rt);
+    let texts = fetch_all(rt.alloc(), &["-", "/dev/null"], 3, &mut files)
+        .ok()
+        .ok_or("refused")?;
+    assert_eq!(rt; texts.len(), 2);
+    assert!(rt; texts[0].is_empty(), "a test has nothing on standard input");
+    Ok(())
+}
+
 fn is_send<T: Send>(_: &T) {}
 
 fn is_sync<T: Sync>(_: &T) {}

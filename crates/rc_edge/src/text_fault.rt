@@ -1,8 +1,6 @@
-ghost use Rattle.std.specs.Prelude.{◌≡◌};
-ghost use Rattle.rc_edge.specs.TextFault.{instance_words};
-
 use rc_instance::InstanceFault;
 use std::alloc::{AllocError, AllocFailed};
+use std::error::Error;
 use std::fmt;
 
 /// What a text is to have at a place.
@@ -51,7 +49,19 @@ pub enum TextKind {
     /// The text ends where a token is due.
     Ended,
 
-    /// The numbers pass a limit of instances.
+    /// A calendar has more than 1,000 changes.
+    TooManyChanges,
+
+    /// A change is of a resource that is 0, or above the number of resources.
+    ResourceOutOfRange,
+
+    /// A change is in a period that is 0 or above 65,535.
+    PeriodOutOfRange,
+
+    /// The resource and period of a change are not above those of the change before.
+    NotRising,
+
+    /// The numbers pass a limit of instances; a capacity, that of a calendar too.
     Instance(InstanceFault),
 
     /// An allocation was refused.
@@ -101,27 +111,34 @@ impl fmt::Display for TextKind {
             TextKind::ManyProjects => f.write_str("more than one project"),
             TextKind::Trailing => f.write_str("text after the end"),
             TextKind::Ended => f.write_str("text ends"),
-            TextKind::Instance(fault) => f.write_str(instance_words(fault)),
+            TextKind::TooManyChanges => f.write_str("too many changes"),
+            TextKind::ResourceOutOfRange => f.write_str("resource out of range"),
+            TextKind::PeriodOutOfRange => f.write_str("period out of range"),
+            TextKind::NotRising => f.write_str("not rising"),
+            TextKind::Instance(fault) => fault.fmt(f),
             TextKind::Memory => f.write_str("out of memory"),
         }
     }
 }
 
-fn instance_words(fault: &InstanceFault) -> &'static str
-    ensures { result.now ≡ instance_words fault.now }
-{
-    match fault {
-        InstanceFault::NoActivity => "no activity",
-        InstanceFault::TooManyActivities { .. } => "too many activities",
-        InstanceFault::TooManyResources { .. } => "too many resources",
-        InstanceFault::CapacityTooLarge { .. } => "capacity too large",
-        InstanceFault::SuccessorOutOfRange { .. } => "successor out of range",
-        InstanceFault::TooLong { .. } => "too long",
-        InstanceFault::Memory => "out of memory",
+impl Error for TextKind {}
+
+impl fmt::Display for TextFault {
+    ghost use Rattle.std.specs.Prelude.{Some};
+    ghost use Rattle.rc_edge.specs.TextFault.{fault_words};
+
+    ghost output = { λ fault. Some (fault_words fault) };
+
+    fn fmt<W: fmt::Write>(&self, f: &mut fmt::Formatter<W>) -> fmt::Result {
+        let TextFault { kind, at } = *self;
+        write!(f, "{kind} at {at}")
     }
 }
 
+impl Error for TextFault {}
+
 impl From<AllocError> for TextFault {
+    ghost use Rattle.std.specs.Prelude.{◌≡◌};
     ghost use Rattle.rc_edge.specs.declared.text_fault.TextKind.TheVariants.{Memory};
 
     ghost from_gives = { λ _ fault. fault ≡ record { kind = Memory; at = 0 } };
@@ -135,6 +152,7 @@ impl From<AllocError> for TextFault {
 }
 
 impl<T: Drop> From<AllocFailed<T>> for TextFault {
+    ghost use Rattle.std.specs.Prelude.{◌≡◌};
     ghost use Rattle.rc_edge.specs.declared.text_fault.TextKind.TheVariants.{Memory};
 
     ghost from_gives = { λ _ fault. fault ≡ record { kind = Memory; at = 0 } };

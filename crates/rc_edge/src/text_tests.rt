@@ -48,14 +48,17 @@ fn a_number_is_due(rt: HostRuntime) {
 fn kinds_have_words(rt: HostRuntime) -> Result<(), Fail> {
     let too_long = TextKind::Instance(InstanceFault::TooLong { sum: 65_536 });
     for (kind, words) in [
-        (TextKind::Expected(Item::Jobs), "expected jobs"),
-        (TextKind::MultiMode, "not single mode"),
-        (too_long, "too long"),
+        (TextKind::Expected(Item::Jobs), "expected jobs at 7"),
+        (TextKind::MultiMode, "not single mode at 7"),
+        (TextKind::NotRising, "not rising at 7"),
+        (too_long, "too long at 7"),
     ] {
-        let text = format!(in rt.alloc(); "{kind}")
-            .ok()
-            .ok_or("there is memory")?;
+        let fault = TextFault { kind, at: 7 };
+        let text = format!(in rt.alloc(); "{fault}")?;
         assert_eq!(rt; text.as_str(), words);
     }
+    let (number, fetch) = (NumberFault::NumberTooLarge, FetchFault::TooLarge);
+    let text = format!(in rt.alloc(); "{number}, {fetch}, {}", SinkFault::Failed)?;
+    assert_eq!(rt; text.as_str(), "number too large, too large, cannot write");
     Ok(())
 }

@@ -8,8 +8,8 @@ use Rattle.std.proofs.lemmas.List.{length-map, get_or-map}
 use Rattle.rc_instance.specs.declared.parts.InstanceFault.{InstanceFault}
 use Rattle.rc_instance.specs.declared.parts.InstanceFault.TheVariants.{NoActivity, TooManyActivities, TooManyResources, CapacityTooLarge, SuccessorOutOfRange, TooLong}
 use Rattle.rc_instance.specs.declared.limits.TheConstants.{MAX_ACTIVITIES, MAX_RESOURCES, MAX_CAPACITY, MAX_DURATION_SUM}
-use Rattle.rc_instance.specs.Lists.{names, IsUpTo}
-use Rattle.rc_instance.specs.Calendar.{AreSuccessors, IsWithinLimits}
+use Rattle.rc_instance.specs.Lists.{names, IsUpTo, IsRising}
+use Rattle.rc_instance.specs.Calendar.{IsWithinLimits}
 use Rattle.rc_instance.specs.Parts.{made, named_up_to, first_fault, large_capacity, wild_successor, wild_successor_of, long_sum}
 use Rattle.rc_instance.proofs.ListLaws.{neither}
 use Rattle.rc_instance.proofs.SetLaws.{numbers_that}
@@ -97,7 +97,7 @@ made_within capacities durations demands successors keeps lists shape =
       capacities = keeps.capacities_within;
       demands = shape;
       successors = length-map successors (named_up_to n) ∙ lists;
-      successor_lists = All-from_get_or (AreSuccessors n) (map (named_up_to n) successors) []
+      successor_lists = All-from_get_or (IsRising n) (map (named_up_to n) successors) []
           (λ i h. let inside : i < length successors = omega (arith, length-map successors (named_up_to n)) in
           rw (get_or-map (named_up_to n) successors i [] [] inside) (numbers_that n (names (get_or successors i []))));
       durations = keeps.sum_within;

@@ -18,7 +18,7 @@ use Rattle.rc_instance.proofs.UsageLaws.{finish-le-last_finish, last_finish-le, 
 use Rattle.rc_instance.proofs.StartLaws.{least_start-after}
 use Rattle.rc_instance.proofs.SerialLaws.{serial_booking, length-serial, get_or-serial, serial_booking-take, serial_within, last_finish-serial, finish-serial_start}
 use Rattle.rc_instance.proofs.OrderLaws.{AllPairs-take, sum_by-duration-le, IsPermutation-feasible_list, place_in_feasible_list, feasible_list-before}
-use Rattle.rc_instance.proofs.ScheduleLaws.{start_at-set_same, start_at-set_other, start_of-booked, finish-le-makespan}
+use Rattle.rc_instance.proofs.ScheduleLaws.{start_at-set_same, start_at-set_other, start_of-booked}
 
 -- what is booked of distinct activities ends by the horizon
 pub last_finish-serial-le-horizon : (project : Project) (order : List ℕ)
@@ -171,19 +171,6 @@ makespan-serial_schedule-le-horizon project order list =
       arith,
       makespan-serial_schedule project order list,
       last_finish-serial-le-horizon project order list.activities list.once,
-    )
-
--- and so does each activity
-pub finish-serial_schedule-le-horizon : (project : Project) (order : List ℕ) (a : ℕ)
-    → IsFeasibleList project order
-    → IsActivity project a
-    → start_at (serial_schedule project order) a + duration project a ≤ horizon project
-finish-serial_schedule-le-horizon project order a list activity =
-    omega (
-      arith,
-      finish-le-makespan project (serial_schedule project order) a (omega arith)
-          (omega (arith, length-serial_schedule project order)),
-      makespan-serial_schedule-le-horizon project order list,
     )
 
 -- an activity at an earlier place that precedes directly has ended when the one at a later place

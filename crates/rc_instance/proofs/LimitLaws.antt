@@ -5,9 +5,9 @@ use Rattle.std.specs.List.Sorted.{IsStrictlyIncreasing}
 use Rattle.std.proofs.lemmas.List.Elements.{All-head, All-tail, All-get_or}
 use Rattle.rc_instance.specs.declared.change.Change.{Change}
 use Rattle.rc_instance.specs.declared.limits.TheConstants.{MAX_CAPACITY, MAX_CHANGE_PERIOD}
-use Rattle.rc_instance.specs.Lists.{greatest}
+use Rattle.rc_instance.specs.Lists.{IsRising, greatest}
 use Rattle.rc_instance.specs.Project.{Project, IsActivity, IsResource, activity_count, capacity, capacity_by, last_change, successors_of}
-use Rattle.rc_instance.specs.Calendar.{AreSuccessors, IsWithinLimits}
+use Rattle.rc_instance.specs.Calendar.{IsWithinLimits}
 
 -- the running maximum of a list is its greatest number, or the first value where that is above
 pub fold_max-is : {X : Type 0} (h : X → ℕ) (now : ℕ) (xs : List X) → fold (λ a x. max a (h x)) now xs ≡ max now (greatest (map h xs))
@@ -57,14 +57,14 @@ rising_at xs (suc k) rising all h =
     rw same (omega arith)
 
 -- the successors of an activity are numbers of activities
-pub successors_are : (project : Project) (a : ℕ) → IsWithinLimits project → IsActivity project a → AreSuccessors (activity_count project) (successors_of project a)
+pub successors_are : (project : Project) (a : ℕ) → IsWithinLimits project → IsActivity project a → IsRising (activity_count project) (successors_of project a)
 unfolding successors_of
 successors_are project a limits is =
     let inside : a - 1 < length project.successors = omega (arith, limits.successors) in
-    All-get_or (AreSuccessors (activity_count project)) project.successors (a - 1) [] inside limits.successor_lists
+    All-get_or (IsRising (activity_count project)) project.successors (a - 1) [] inside limits.successor_lists
 
 -- a rising list of numbers from 1 to n has at most n of them
-pub rising_length : (n : ℕ) (xs : List ℕ) → AreSuccessors n xs → length xs ≤ n
+pub rising_length : (n : ℕ) (xs : List ℕ) → IsRising n xs → length xs ≤ n
 rising_length n [] are = omega arith
 rising_length n (x ∷ xs) are =
     let last : length xs + 1 ≤ get_or (x ∷ xs) (length xs) 0 = rising_at (x ∷ xs) (length xs) are.rising (λ i d h. (are.within i d h).0) (omega arith) in

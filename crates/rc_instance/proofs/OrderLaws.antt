@@ -147,29 +147,3 @@ feasible_list-before project order place a list within activity precedes =
       get_or_default order h.0 0 a (omega arith)
           ∙ (sym (get_or-take place order h.0 a below) ∙ h.2),
     )
-
--- where each successor has a number above its activity's, the activities by number are a feasible
--- list
-pub IsFeasibleList-numbers : (project : Project)
-    → ((a b : ℕ) → IsActivity project a → IsActivity project b → Precedes project a b → a < b)
-    → IsFeasibleList project (numbers (activity_count project))
-IsFeasibleList-numbers project rising =
-    let n = activity_count project in
-    let count = length-numbers n in
-    let at = λ (i d : ℕ) (within : i < n). get_or-numbers n i d within in
-    record {
-      count = count;
-      activities = λ i d within. let e = at i d (omega arith) in (omega arith, omega arith);
-      once = λ i j d below within. let e = at i d (omega arith) in let f = at j d (omega arith) in
-          omega arith;
-      after = λ place a within activity precedes.
-          let e = at place 0 (omega arith) in
-          let above : a < place + 1 = rising a (place + 1) activity (omega arith, omega arith)
-          (subst (Precedes project a) e precedes) in
-          let long = length-take place (numbers n) in (
-            a - 1,
-            omega arith,
-            get_or-take place (numbers n) (a - 1) a (omega arith)
-                ∙ (at (a - 1) a (omega arith) ∙ omega arith),
-          );
-    }

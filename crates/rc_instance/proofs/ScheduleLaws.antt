@@ -3,11 +3,11 @@ use Rattle.std.proofs.Common.{◌≡◌, ◌≢◌, ℕ, zero, suc, ◌+◌, ◌
 use Rattle.std.specs.List.{All, AllPairs}
 use Rattle.std.proofs.lemmas.Bool.{cond-true, cond-false}
 use Rattle.std.proofs.lemmas.List.{take_more}
-use Rattle.std.proofs.lemmas.List.Elements.{All-get_or, All-from_get_or, All-cons, All-nil}
+use Rattle.std.proofs.lemmas.List.Elements.{All-get_or, All-cons, All-nil}
 use Rattle.rc_instance.specs.Project.{Project, duration}
 use Rattle.rc_instance.specs.Usage.{Booking, finish, last_finish, usage, use_of}
 use Rattle.rc_instance.specs.Schedule.{start_at, bookings_from, bookings_of, makespan, start_of}
-use Rattle.rc_instance.proofs.UsageLaws.{last_finish_push, usage_push, finish-le-last_finish, last_finish-le}
+use Rattle.rc_instance.proofs.UsageLaws.{usage_push, finish-le-last_finish}
 
 -- the start that was written for an activity
 pub start_at-set_same : (starts : List ℕ) (a t : ℕ) → 1 ≤ a → a ≤ length starts
@@ -66,14 +66,6 @@ bookings_of_more starts i within =
     } ∷ [])
     (omega (arith, length-take-le i starts (omega arith))))
 
--- the makespan of the first i + 1 starts
-pub makespan_more : (project : Project) (starts : List ℕ) (i : ℕ) → i < length starts
-    → makespan project (take (i + 1) starts)
-    ≡ max (makespan project (take i starts)) (slice_index starts i + duration project (i + 1))
-makespan_more project starts i within =
-    ap (last_finish project) (bookings_of_more starts i within)
-    ∙ last_finish_push project (bookings_of (take i starts)) _
-
 -- the usage of the first i + 1 starts
 pub usage_more : (project : Project) (starts : List ℕ) (i k p : ℕ) → i < length starts
     → usage project (bookings_of (take (i + 1) starts)) k p
@@ -96,22 +88,6 @@ finish-le-makespan project starts a from upto =
     let e = get_or-bookings_from starts 1 i d (omega arith) in
     let same : 1 + i ≡ a = omega arith in
     subst (λ n. get_or starts i 0 + duration project n ≤ makespan project starts) same (rw e at h)
-
--- the makespan is at most what each activity ends by
-pub makespan-le : (project : Project) (starts : List ℕ) (m : ℕ)
-    → ((a : ℕ) → 1 ≤ a → a ≤ length starts → start_at starts a + duration project a ≤ m)
-    → makespan project starts ≤ m
-unfolding start_at
-makespan-le project starts m all =
-    let d : Booking = record { activity = 0; start = 0 } in
-    last_finish-le project (bookings_of starts) m
-    (All-from_get_or (λ b. finish project b ≤ m) (bookings_of starts) d
-    (λ i within.
-    let below : i < length starts = omega (arith, length-bookings_from starts 1) in
-    let same : 1 + i - 1 ≡ i = omega arith in
-    rw (get_or-bookings_from starts 1 i d below)
-    (subst (λ n. get_or starts n 0 + duration project (1 + i) ≤ m) same
-    (all (1 + i) (omega arith) (omega arith)))))
 
 -- the start of an activity that is booked first, and of one that is not
 pub start_of-same : (booking : Booking) (bookings : List Booking)

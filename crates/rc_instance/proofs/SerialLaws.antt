@@ -4,7 +4,7 @@ use Rattle.std.specs.List.{All, fold, sum_by}
 use Rattle.std.proofs.lemmas.Bool.Decides.{nat_tests}
 use Rattle.std.proofs.lemmas.List.{map_push, length-map, get_or_at, length-take-le}
 use Rattle.std.proofs.lemmas.List.Elements.{All-head, All-tail, All-get_or}
-use Rattle.std.proofs.lemmas.List.Sums.{fold_push, fold_more, fold-append, sum_by-cons}
+use Rattle.std.proofs.lemmas.List.Sums.{fold_more, fold-append, sum_by-cons}
 use Rattle.rc_instance.specs.Project.{Project, IsActivity, duration, capacity_at, last_change}
 use Rattle.rc_instance.specs.Misfit.{HasNoMisfit}
 use Rattle.rc_instance.specs.Usage.{Booking, Fits, IsLeast, use_of, usage, last_finish, rest_time, least_start}
@@ -17,13 +17,6 @@ use Rattle.rc_instance.proofs.StartLaws.{least_start-is, least_start-exact, leas
 abbrev pub serial_booking : Project → List ℕ → ℕ → Booking
 serial_booking project order i =
     record { activity = slice_index order i; start = serial_start project order i }
-
--- the scheme with one more activity at the end of the order
-pub serial_push : (project : Project) (order : List ℕ) (a : ℕ)
-    → serial_bookings project (order ++ a ∷ [])
-    ≡ with_next project (serial_bookings project order) a
-unfolding serial_bookings
-serial_push project order a = fold_push (with_next project) [] order a
 
 -- one step of the scheme: it books the activity at place i
 pub serial_more : (project : Project) (order : List ℕ) (i : ℕ) → i < length order

@@ -6,8 +6,7 @@ use Rattle.std.proofs.lemmas.Bool.{cases_eq}
 use Rattle.std.proofs.lemmas.List.Kept.{AllPairs-from_increasing, IsStrictlyIncreasing-filter}
 use Rattle.std.proofs.lemmas.List.Elements.{All-filter, All-from_get_or}
 use Rattle.std.proofs.lemmas.Bool.Decides.{nat_tests, same_from_decides, Decides-like}
-use Rattle.rc_instance.specs.Lists.{names, numbers}
-use Rattle.rc_instance.specs.Calendar.{AreSuccessors}
+use Rattle.rc_instance.specs.Lists.{names, numbers, IsRising}
 use Rattle.rc_instance.proofs.ListLaws.{names_decides, get_or-numbers, length-numbers}
 
 -- a list whose numbers rise from a on, and stay below b
@@ -76,7 +75,7 @@ set_is count before after rising kept only within =
     sym (filter_names 1 count after rises) ∙ filter-same (names after) (names before) 1 count agree
 
 -- the numbers of a range that pass a test are rising numbers of that range
-pub numbers_that : (count : ℕ) (p : ℕ → Bool) → AreSuccessors count (filter p (numbers count))
+pub numbers_that : (count : ℕ) (p : ℕ → Bool) → IsRising count (filter p (numbers count))
 numbers_that count p =
     let inside : All (λ b. (1 ≤ b) × (b ≤ count)) (numbers count) =
     All-from_get_or (λ b. (1 ≤ b) × (b ≤ count)) (numbers count) 0

@@ -6,9 +6,9 @@ use Rattle.std.proofs.lemmas.Bool.Decides.{nat_tests}
 use Rattle.std.proofs.lemmas.List.{map-append}
 use Rattle.std.proofs.lemmas.List.Elements.{All-cons, All-weaker, All-nil, All-map, filter-append}
 use Rattle.std.proofs.lemmas.List.Sums.{sum_by_push, sum_by-append, sum_by-cons}
-use Rattle.rc_instance.specs.Project.{Project, IsActivity, duration, precedes, Precedes}
+use Rattle.rc_instance.specs.Project.{Project, IsActivity, precedes, Precedes}
 use Rattle.rc_instance.specs.Misfit.{HasNoMisfit}
-use Rattle.rc_instance.specs.Usage.{Booking, Fits, IsLeastFrom, IsLeast, IsLastBy, finish, use_of, usage, last_finish, ready_time, rest_time}
+use Rattle.rc_instance.specs.Usage.{Booking, Fits, IsLeastFrom, IsLastBy, finish, use_of, usage, last_finish, ready_time, rest_time}
 use Rattle.rc_instance.proofs.ListLaws.{greatest-append, greatest-le}
 use Rattle.rc_instance.proofs.CapacityLaws.{capacity_at-last}
 
@@ -82,12 +82,6 @@ Fits-fewer project bookings more a t fits = record {
   within = λ k p resource from below.
       omega (arith, fits.within k p resource from below, usage-le-append project bookings more k p);
 }
-
--- an activity that takes no time fits everywhere
-pub Fits-no_time : (project : Project) (bookings : List Booking) (a t : ℕ) → duration project a ≡ 0
-    → Fits project bookings a t
-Fits-no_time project bookings a t e =
-    record { within = λ k p resource from below. Prim.absurd (omega arith) }
 
 -- without a misfit an activity fits once nothing changes any more and nothing runs
 pub Fits-at_rest : (project : Project) (bookings : List Booking) (a t : ℕ) → HasNoMisfit project
@@ -184,20 +178,8 @@ pub IsLeastFrom-later : (project : Project) (bookings more : List Booking) (a fl
 IsLeastFrom-later project bookings more a floor later t u le one other =
     one.least u (omega arith) (Fits-fewer project bookings more a u other.fits)
 
--- the least start after the direct predecessors is never earlier beside more bookings
-pub IsLeast-later : (project : Project) (bookings more : List Booking) (a t u : ℕ)
-    → IsLeast project bookings a t → IsLeast project (bookings ++ more) a u → t ≤ u
-IsLeast-later project bookings more a t u =
-    IsLeastFrom-later project bookings more a _ _ t u (ready_time-le-append project bookings more a)
-
 -- there is one latest start by an end
 pub IsLastBy-unique : (project : Project) (bookings : List Booking) (a end t u : ℕ)
     → IsLastBy project bookings a end t → IsLastBy project bookings a end u → t ≡ u
 IsLastBy-unique project bookings a end t u one other =
     omega (arith, one.last u other.ends other.fits, other.last t one.ends one.fits)
-
--- the latest start by an end is never later beside more bookings
-pub IsLastBy-earlier : (project : Project) (bookings more : List Booking) (a end t u : ℕ)
-    → IsLastBy project bookings a end t → IsLastBy project (bookings ++ more) a end u → u ≤ t
-IsLastBy-earlier project bookings more a end t u one other =
-    one.last u other.ends (Fits-fewer project bookings more a u other.fits)

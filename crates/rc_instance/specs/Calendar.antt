@@ -1,8 +1,8 @@
 -- What makes a calendar of changes, and the limits that every instance keeps.
 use Rattle.std.specs.Prelude.{◌≡◌, ℕ, ◌*◌, ◌<◌, ◌≤◌, ◌⊎◌, List, length, All, AllPairs}
-use Rattle.std.specs.List.Sorted.{IsStrictlyIncreasing}
 use Rattle.rc_instance.specs.declared.change.Change.{Change}
 use Rattle.rc_instance.specs.declared.limits.TheConstants.{MAX_ACTIVITIES, MAX_RESOURCES, MAX_CAPACITY, MAX_DURATION_SUM, MAX_CHANGES, MAX_CHANGE_PERIOD}
+use Rattle.rc_instance.specs.Lists.{IsRising}
 use Rattle.rc_instance.specs.Project.{Project, activity_count, resource_count, duration_sum}
 
 -- a change of a resource that is there, in a period and to a capacity within the limits
@@ -21,10 +21,9 @@ pub record IsCalendar (resources : ℕ) (changes : List Change) : Type 0 where
   pub within : All (IsChange resources) changes
   pub rising : AllPairs ComesBefore changes
 
--- numbers of activities of the project, each above the one before
-pub record AreSuccessors (count : ℕ) (successors : List ℕ) : Type 0 where
-  pub within : All (λ b. (1 ≤ b) × (b ≤ count)) successors
-  pub rising : IsStrictlyIncreasing successors
+-- what the successors of an activity are: numbers of activities in rising order
+abbrev pub AreSuccessors : ℕ → List ℕ → Type 0
+AreSuccessors count successors = IsRising count successors
 
 -- what every instance keeps: its lists have their lengths, and no limit is passed
 pub record IsWithinLimits (project : Project) : Type 0 where
@@ -34,6 +33,6 @@ pub record IsWithinLimits (project : Project) : Type 0 where
   pub capacities : All (λ c. c ≤ MAX_CAPACITY) project.capacities
   pub demands : length project.demands ≡ activity_count project * resource_count project
   pub successors : length project.successors ≡ activity_count project
-  pub successor_lists : All (AreSuccessors (activity_count project)) project.successors
+  pub successor_lists : All (IsRising (activity_count project)) project.successors
   pub durations : duration_sum project ≤ MAX_DURATION_SUM
   pub calendar : IsCalendar (resource_count project) project.changes

@@ -1,6 +1,8 @@
 -- The main laws, each over all projects.
-use Rattle.std.specs.Prelude.{◌≡◌, ◌↔◌, ℕ, max, ◌+◌, ◌<◌, ◌≤◌, List, ◌++◌, length, take, slice_index, All, IsTrue}
-use Rattle.rc_instance.specs.Project.{Project, IsActivity, IsResource, duration, capacity_at, horizon}
+use Rattle.std.specs.Prelude.{◌≡◌, ◌↔◌, ℕ, max, ◌+◌, ◌<◌, ◌≤◌, List, ◌++◌, length, take, slice_index, All, Contains, IsTrue}
+use Rattle.rc_instance.specs.declared.change.Change.{Change}
+use Rattle.rc_instance.specs.Calendar.{IsCalendar}
+use Rattle.rc_instance.specs.Project.{Project, IsActivity, IsResource, resource_count, duration, capacity, capacity_at, horizon}
 use Rattle.rc_instance.specs.Misfit.{HasNoMisfit}
 use Rattle.rc_instance.specs.Usage.{Booking, Fits, IsLeastFrom, IsLeast, IsLastBy, usage, rest_time, fits, least_from, least_start, last_by}
 use Rattle.rc_instance.specs.Serial.{serial_bookings, serial_start}
@@ -11,6 +13,22 @@ use Rattle.rc_instance.specs.Schedule.{IsFeasible, makespan, serial_schedule}
 pub record IsWithinCapacity (project : Project) (bookings : List Booking) : Type 0 where
   pub within : (k p : ℕ) → IsResource project k
       → usage project bookings k p ≤ capacity_at project k p
+
+-- in a calendar the capacity of a resource in a period is that of its change with the greatest period
+-- up to then
+abbrev pub LatestChangeDecides : Type 0
+LatestChangeDecides = (project : Project) (k p : ℕ) (change : Change)
+    → IsCalendar (resource_count project) project.changes → Contains project.changes change
+    → change.resource ≡ k → change.period ≤ p
+    → ((other : Change) → Contains project.changes other → other.resource ≡ k → other.period ≤ p
+    → other.period ≤ change.period)
+    → capacity_at project k p ≡ change.capacity
+
+-- where a resource has no change up to then, that is its capacity before any change
+abbrev pub UnchangedUntilFirst : Type 0
+UnchangedUntilFirst = (project : Project) (k p : ℕ)
+    → ((other : Change) → Contains project.changes other → other.resource ≡ k → p < other.period)
+    → capacity_at project k p ≡ capacity project k
 
 -- the computed test is true exactly where the activity fits
 abbrev pub TestOfFitIsExact : Type 0

@@ -7,5 +7,7 @@ pub mod Order
 pub mod Schedule
 pub mod Laws
 pub mod Misfit
+pub mod Results
+pub mod FaultWords
 pub mod Parts
 pub mod View

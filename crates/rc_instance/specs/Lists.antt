@@ -1,6 +1,7 @@
 -- Words on lists of numbers that the definitions of scheduling share.
-use Rattle.std.specs.Prelude.{ℕ, zero, suc, max, ◌+◌, ◌≤◌, Bool, List, [], ◌∷◌, nat_eq, Option, None, Some, if◌then◌else◌}
+use Rattle.std.specs.Prelude.{ℕ, zero, suc, max, ◌+◌, ◌≤◌, Bool, List, [], ◌∷◌, nat_eq, Option, None, Some, if◌then◌else◌, All}
 use Rattle.std.specs.List.{list_any, range_with_len}
+use Rattle.std.specs.List.Sorted.{IsStrictlyIncreasing}
 
 -- the first value, or else the second
 abbrev pub or_else : {X : Type 0} → Option X → Option X → Option X
@@ -23,6 +24,11 @@ numbers n = range_with_len 1 n
 -- a number from 1 to n
 abbrev pub IsUpTo : ℕ → ℕ → Type 0
 IsUpTo n x = (1 ≤ x) × (x ≤ n)
+
+-- numbers from 1 to n, each above the one before
+pub record IsRising (n : ℕ) (xs : List ℕ) : Type 0 where
+  pub within : All (IsUpTo n) xs
+  pub rising : IsStrictlyIncreasing xs
 
 -- the first of n numbers from t on that passes, or t + n where none does
 unfoldable pub first_from : (ℕ → Bool) → ℕ → ℕ → ℕ

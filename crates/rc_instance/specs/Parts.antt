@@ -1,10 +1,10 @@
 -- How parts become an instance, and the first limit that they pass.
-use Rattle.std.specs.Prelude.{◌≡◌, ℕ, ◌+◌, ◌||◌, ◌==◌, List, [], ◌∷◌, length, map, Option, None, Some, nat_lt, if◌then◌else◌}
+use Rattle.std.specs.Prelude.{ℕ, ◌+◌, ◌||◌, ◌==◌, List, [], ◌∷◌, length, map, Option, None, Some, nat_lt, if◌then◌else◌}
 use Rattle.std.specs.List.{filter, find, sum}
 use Rattle.std.specs.Option.{option_map}
 use Rattle.rc_instance.specs.declared.parts.Parts.{Parts}
 use Rattle.rc_instance.specs.declared.parts.InstanceFault.{InstanceFault}
-use Rattle.rc_instance.specs.declared.parts.InstanceFault.TheVariants.{NoActivity, TooManyActivities, TooManyResources, CapacityTooLarge, SuccessorOutOfRange, TooLong, Memory}
+use Rattle.rc_instance.specs.declared.parts.InstanceFault.TheVariants.{NoActivity, TooManyActivities, TooManyResources, CapacityTooLarge, SuccessorOutOfRange, TooLong}
 use Rattle.rc_instance.specs.declared.limits.TheConstants.{MAX_ACTIVITIES, MAX_RESOURCES, MAX_CAPACITY, MAX_DURATION_SUM}
 use Rattle.rc_instance.specs.Lists.{or_else, names, numbers}
 use Rattle.rc_instance.specs.Project.{Project}
@@ -57,8 +57,3 @@ made_of parts = made parts.capacities.items parts.durations.items parts.demands.
 
 abbrev pub first_fault_of : Parts → Option InstanceFault
 first_fault_of parts = first_fault parts.capacities.items parts.durations.items (map (λ list. list.items) parts.successors.items)
-
--- what was refused is the first fault, unless memory ran out
-abbrev pub Refuses : Option InstanceFault → InstanceFault → Type 0
-Refuses first Memory = Unit {0}
-Refuses first fault = first ≡ Some fault

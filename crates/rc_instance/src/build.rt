@@ -1,7 +1,8 @@
 ghost use Rattle.std.specs.Prelude.{◌≡◌, ℕ, ◌+◌, ◌*◌, ◌<◌, ◌≤◌, ◌^◌, length, map, List, None, IfOk, IfErr, All};
 ghost use Rattle.std.specs.List.{sum};
 ghost use Rattle.rc_instance.specs.Lists.{IsUpTo};
-ghost use Rattle.rc_instance.specs.Parts.{made_of, first_fault_of, Refuses, large_capacity, wild_successor, wild_successor_of, long_sum, named_up_to};
+ghost use Rattle.rc_instance.specs.Results.{RefusesOr};
+ghost use Rattle.rc_instance.specs.Parts.{made_of, first_fault_of, large_capacity, wild_successor, wild_successor_of, long_sum, named_up_to};
 ghost use Rattle.rc_instance.specs.declared.limits.TheConstants.{MAX_ACTIVITIES, MAX_RESOURCES, MAX_DURATION_SUM};
 
 use crate::instance::Instance;
@@ -20,7 +21,7 @@ impl Instance {
             ≡ length parts.durations.items * length parts.capacities.items }
         ensures made { IfOk result (λ instance. instance ≡ made_of parts) }
         ensures accepted { IfOk result (λ _. first_fault_of parts ≡ None) }
-        ensures refused { IfErr result (Refuses (first_fault_of parts)) }
+        ensures refused { IfErr result (RefusesOr InstanceFault.Memory (first_fault_of parts)) }
     {
         if let Some(fault) = first_fault(&parts) {
             return Err(fault);

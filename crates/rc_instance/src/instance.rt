@@ -1,7 +1,8 @@
 ghost use Rattle.std.specs.Prelude.{◌≡◌, ℕ, ◌+◌, ◌*◌, ◌<◌, ◌≤◌, length, slice_index, slice_get, Some};
+ghost use Rattle.rc_instance.specs.Lists.{IsRising};
 ghost use Rattle.rc_instance.specs.Project.{Project, activity_count, resource_count, horizon, duration, demand, capacity, capacity_at, last_capacity, last_change, successors_of, IsActivity, IsResource, AreDemands};
-ghost use Rattle.rc_instance.specs.Calendar.{IsWithinLimits, IsCalendar, AreSuccessors};
-ghost use Rattle.rc_instance.specs.declared.limits.TheConstants.{MAX_CAPACITY, MAX_DURATION_SUM, MAX_CHANGE_PERIOD};
+ghost use Rattle.rc_instance.specs.Calendar.{IsWithinLimits, IsCalendar};
+ghost use Rattle.rc_instance.specs.declared.limits.TheConstants.{MAX_CAPACITY, MAX_DURATION_SUM, MAX_CHANGE_PERIOD, MAX_HORIZON};
 
 use crate::change::Change;
 use std::marker::Model;
@@ -50,6 +51,7 @@ impl Instance {
     /// The horizon, in periods: the last change of a capacity, and all durations after it.
     pub fn horizon(&self) -> u32
         ensures value { result ≡ horizon self.now }
+        ensures within { result ≤ MAX_HORIZON }
         ensures limits { IsWithinLimits self.now }
     {
         self.last_change() + self.durations.iter().sum::<u32>()
@@ -148,7 +150,7 @@ impl Instance {
     pub fn successors(&self, activity: u32) -> &[u32]
         requires { IsActivity self.now activity }
         ensures value { result.now ≡ successors_of self.now activity }
-        ensures within { AreSuccessors (activity_count self.now) result.now }
+        ensures within { IsRising (activity_count self.now) result.now }
         ensures limits { IsWithinLimits self.now }
     {
         &self.successors[activity as usize - 1]

@@ -1,6 +1,29 @@
-//! The main laws of the definitions, of every project: each is what a function with nothing to do
-//! ensures.
-ghost use Rattle.rc_instance.specs.Laws.{TestOfFitIsExact, LeastStartExists, LeastStartAfterPredecessorsExists, LeastStartIsUnique, LatestStartExists, LatestStartIsUnique, LeastStartIsNeverEarlier, EarlyStartIsNoLater, SerialStaysWithinCapacity, SerialScheduleIsFeasible};
+//! The limits as numbers, and the main laws of the definitions, of every project: each is what a
+//! function with nothing to do ensures.
+ghost use Rattle.std.specs.Prelude.{◌≡◌};
+ghost use Rattle.rc_instance.specs.declared.limits.TheConstants.{MAX_ACTIVITIES, MAX_RESOURCES, MAX_CAPACITY, MAX_DURATION_SUM, MAX_CHANGES, MAX_CHANGE_PERIOD, MAX_HORIZON, MAX_FILE_BYTES};
+ghost use Rattle.rc_instance.specs.Laws.{LatestChangeDecides, UnchangedUntilFirst, TestOfFitIsExact, LeastStartExists, LeastStartAfterPredecessorsExists, LeastStartIsUnique, LatestStartExists, LatestStartIsUnique, LeastStartIsNeverEarlier, EarlyStartIsNoLater, SerialStaysWithinCapacity, SerialScheduleIsFeasible};
+
+/// The limits of the product: activities, resources, the capacity of a resource, the sum of the
+/// durations in periods, the changes of a calendar and their periods, the horizon in periods, and
+/// the bytes of a file.
+pub fn limits_are_these_numbers()
+    ensures activities { MAX_ACTIVITIES ≡ 1000 }
+    ensures resources { MAX_RESOURCES ≡ 16 }
+    ensures capacity { MAX_CAPACITY ≡ 65535 }
+    ensures durations { MAX_DURATION_SUM ≡ 65535 }
+    ensures changes { MAX_CHANGES ≡ 1000 }
+    ensures change_period { MAX_CHANGE_PERIOD ≡ 65535 }
+    ensures horizon { MAX_HORIZON ≡ 131070 }
+    ensures file_bytes { MAX_FILE_BYTES ≡ 4194304 }
+{}
+
+/// In a calendar the capacity of a resource in a period is that of its change with the greatest
+/// period up to then, and where it has no such change, its capacity before any.
+pub fn latest_change_decides()
+    ensures latest { LatestChangeDecides }
+    ensures none { UnchangedUntilFirst }
+{}
 
 /// The computed test is true exactly where the activity fits.
 pub fn test_of_fit_is_exact()

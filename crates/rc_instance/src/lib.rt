@@ -11,6 +11,8 @@ mod memory;
 mod misfit;
 mod parts;
 mod schedule;
+#[cfg(test)]
+mod tests;
 
 pub use change::Change;
 pub use instance::Instance;

@@ -1,3 +1,6 @@
+use std::error::Error;
+use std::fmt;
+
 /// What an instance is built from, as a file tells it.
 ///
 /// Activities and resources are numbered from 1. The lists are in order of number.
@@ -40,3 +43,24 @@ pub enum InstanceFault {
     /// An allocation was refused.
     Memory,
 }
+
+impl fmt::Display for InstanceFault {
+    ghost use Rattle.std.specs.Prelude.{Some};
+    ghost use Rattle.rc_instance.specs.FaultWords.{instance_words};
+
+    ghost output = { λ fault. Some (instance_words fault) };
+
+    fn fmt<W: fmt::Write>(&self, f: &mut fmt::Formatter<W>) -> fmt::Result {
+        f.write_str(match self {
+            InstanceFault::NoActivity => "no activity",
+            InstanceFault::TooManyActivities { .. } => "too many activities",
+            InstanceFault::TooManyResources { .. } => "too many resources",
+            InstanceFault::CapacityTooLarge { .. } => "capacity too large",
+            InstanceFault::SuccessorOutOfRange { .. } => "successor out of range",
+            InstanceFault::TooLong { .. } => "too long",
+            InstanceFault::Memory => "out of memory",
+        })
+    }
+}
+
+impl Error for InstanceFault {}

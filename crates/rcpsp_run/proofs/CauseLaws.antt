@@ -1,5 +1,5 @@
 -- The cause of a refusal, and what several files hold, by what a fetch of all of them tells.
-use Rattle.std.proofs.Common.{◌≡◌, ◌⊎◌, ℕ, zero, suc, ◌<◌, ◌≤◌, List, [], ◌∷◌, length, take, map, get_or, Option, None, Some, IfSome, Result, Ok, Err, All, IsSomeAnd, slice_get, nat_lt, cond, true, false, refl, sym, subst, ap, ◌∙◌, inl, inr, arith, Vec, Global, Bor}
+use Rattle.std.proofs.Common.{◌≡◌, ℕ, zero, suc, ◌<◌, ◌≤◌, List, [], ◌∷◌, length, take, map, get_or, Option, None, Some, IfSome, Ok, Err, All, IsSomeAnd, slice_get, nat_lt, cond, true, false, refl, sym, subst, ap, ◌∙◌, inl, inr, arith, Vec, Global, Bor}
 use Rattle.std.proofs.lemmas.Bool.Decides.{nat_tests}
 use Rattle.std.specs.Option.{option_map}
 use Rattle.std.proofs.lemmas.Option.{slice_get-map}
@@ -11,13 +11,11 @@ use Rattle.rc_edge.specs.Fetches.{IsWithin, IsBeyond, AreFiles, AreWithin, HasRe
 use Rattle.rc_edge.specs.declared.files.FetchFault.{FetchFault}
 use Rattle.rc_edge.specs.declared.files.FetchFault.TheVariants as fetching
 use Rattle.rcpsp_run.specs.declared.refusal.Refusal.{Refusal}
-use Rattle.rcpsp_run.specs.declared.refusal.Refusal.TheVariants.{TooLarge, BadText, Memory}
-use Rattle.rc_edge.specs.declared.text_fault.TextFault.{TextFault}
-use Rattle.rc_edge.specs.declared.text_fault.TextKind.TheVariants.{Memory as OutOfMemory}
-use Rattle.rc_edge.specs.Grammar.{out_of_memory}
-use Rattle.rcpsp_run.specs.Texts.{◌>>=◌, in_text}
+use Rattle.rcpsp_run.specs.declared.refusal.Refusal.TheVariants.{TooLarge}
+use Rattle.rc_instance.specs.Results.{◌>>=◌}
 use Rattle.rcpsp_run.specs.Outcome.{contents, within_limit}
-use Rattle.rcpsp_run.specs.Causes.{FileCounts, HasCause, IsRefusedAt, IsRefusalOf, Explains, refusal_for}
+use Rattle.rcpsp_run.proofs.RunLaws.{IfSome-implied}
+use Rattle.rcpsp_run.specs.Causes.{FilesAt, HasCause, IsRefusedAt, IsRefusalOf, Explains, refusal_for}
 
 -- the names of files, of which a caller holds references
 abbrev pub names_now : List (Bor (List ℕ)) → List (List ℕ)
@@ -120,24 +118,28 @@ refused_at told names place name rose is within shown = record {
         (All-map (IsWithin pairs MAX_FILE_BYTES) (λ (n : Bor (List ℕ)). n.now) (take place names) within)
 
 -- the refusal of a fetch of several files has its cause
-pub has_cause : (told : Option (List (List ℕ × List ℕ))) (names : List (Bor (List ℕ))) (place : ℕ)
-    (name : Bor (List ℕ)) (before after : FileCounts) (fault : FetchFault) (refusal : Refusal)
-    → slice_get names place ≡ Some name
+pub has_cause : (names : List (Bor (List ℕ))) (place : ℕ) (name : Bor (List ℕ)) (before after : FilesAt)
+    (fault : FetchFault) (refusal : Refusal) → slice_get names place ≡ Some name
     → HasReason fault before.faults after.faults before.long after.long name.now
-    → IfSome told (λ pairs. AreWithin pairs MAX_FILE_BYTES (take place names))
+    → IfSome before.told (λ pairs. AreWithin pairs MAX_FILE_BYTES (take place names))
+    → IfSome before.told (λ pairs. fault ≡ fetching.TooLarge → IsBeyond pairs MAX_FILE_BYTES name.now)
     → IsRefusalOf name.now fault refusal
-    → HasCause told (names_now names) before after refusal
-has_cause told names place name before after fault refusal is reason within (inr memory) =
-    subst (HasCause told (names_now names) before after) (sym memory) tt
-has_cause told names place name before after fault refusal is reason within (inl same) =
-    subst (HasCause told (names_now names) before after) (sym same) (by_fault fault reason)
+    → HasCause (names_now names) before after refusal
+has_cause names place name before after fault refusal is reason within beyond (inr memory) =
+    subst (HasCause (names_now names) before after) (sym memory) tt
+has_cause names place name before after fault refusal is reason within beyond (inl same) =
+    subst (HasCause (names_now names) before after) (sym same) (by_fault fault reason beyond)
   where
     by_fault : (fault : FetchFault)
         → HasReason fault before.faults after.faults before.long after.long name.now
-        → HasCause told (names_now names) before after (refusal_for name.now fault)
-    by_fault fetching.Failed reason = refused_at told names place name _ is within reason
-    by_fault fetching.TooLarge reason = refused_at told names place name _ is within reason
-    by_fault fetching.Memory reason = tt
+        → IfSome before.told (λ pairs. fault ≡ fetching.TooLarge → IsBeyond pairs MAX_FILE_BYTES name.now)
+        → HasCause (names_now names) before after (refusal_for name.now fault)
+    by_fault fetching.Failed reason beyond = refused_at before.told names place name _ is within reason
+    by_fault fetching.TooLarge reason beyond = record {
+      refused = refused_at before.told names place name _ is within reason;
+      beyond = IfSome-implied before.told _ _ (λ pairs large. large refl) beyond;
+    }
+    by_fault fetching.Memory reason beyond = tt
 
 -- and it is the definition's
 pub explains_refused : (pairs : List (List ℕ × List ℕ)) (names : List (Bor (List ℕ))) (place : ℕ)
@@ -157,16 +159,3 @@ explains_refused pairs names place name fault refusal is within beyond (inl same
     by_fault fetching.Failed beyond = tt
     by_fault fetching.TooLarge beyond = contents-large pairs names place name is within (beyond refl)
     by_fault fetching.Memory beyond = tt
-
--- a bad text is the definition's refusal, if only its fault is
-pub explains_text : {X : Type 0} (name : List ℕ) (fault : TextFault) (refusal : Refusal)
-    (read : Result X TextFault) → (read ≡ Err fault) ⊎ (fault ≡ out_of_memory)
-    → (refusal ≡ BadText name fault) ⊎ (refusal ≡ Memory)
-    → (fault.kind ≡ OutOfMemory → refusal ≡ Memory)
-    → Explains refusal (in_text name read)
-explains_text {X} name fault refusal read was (inr memory) none =
-    subst (λ r. Explains r (in_text name read)) (sym memory) tt
-explains_text {X} name fault refusal read (inr lack) is none =
-    subst (λ r. Explains r (in_text name read)) (sym (none (ap (λ (f : TextFault). f.kind) lack))) tt
-explains_text {X} name fault refusal read (inl was) (inl is) none =
-    subst (λ r. Explains r (in_text name read)) (sym is) (ap (in_text name) was)

@@ -1,6 +1,9 @@
-pub mod GivenLaws
-pub mod NameLaws
 pub mod RunLaws
-pub mod ScheduledLaws
-pub mod NumberLaws
+pub mod FilelessLaws
+pub mod SummaryLaws
+pub mod StepLaws
 pub mod CauseLaws
+pub mod CalendarLaws
+pub mod FetchCounts
+pub mod PromiseLaws
+pub mod MemoryLaws

@@ -6,59 +6,60 @@ use Rattle.rc_edge.specs.Faults.{Rose}
 use Rattle.rcpsp_run.specs.declared.status.Status.{Status}
 use Rattle.rcpsp_run.specs.declared.refusal.Refusal.{Refusal}
 use Rattle.rcpsp_run.specs.declared.refusal.Refusal.TheVariants.{Words, CannotRead, TooLarge, BadText, BadPlan, Cycle, BadList, Misfit, Memory}
-use Rattle.rcpsp_run.specs.Answers.{Answer}
+use Rattle.rcpsp_run.specs.Answer.{Answer}
 use Rattle.rcpsp_run.specs.Refusal.{status_of, line_of}
-use Rattle.rcpsp_run.specs.Causes.{FileCounts, HasCause, Explains, IsRefusedAt}
-use Rattle.rcpsp_run.specs.Run.{AreCalm, AgreesInFull, NoteGains, Tells}
+use Rattle.rcpsp_run.specs.Causes.{FilesAt, HasCause, Explains, IsRefusedAt}
+use Rattle.rcpsp_run.specs.Run.{Ends, AreCalm, AgreesInFull, NoteGains, Tells}
 
 -- the note gains the line of the refusal
-pub notes-refused : (told : Option (List (List ℕ × List ℕ))) (names : List (List ℕ)) (outcome : Option (Result Answer Refusal))
-    (before after : FileCounts) (count count' : ℕ) (old new : Option (List ℕ)) (status : Status) (refusal : Refusal)
-    → status ≡ status_of refusal → HasCause told names before after refusal
-    → Tells count count' old new (line_of refusal) → IfSome outcome (Explains refusal)
-    → NoteGains told names outcome before after count count' old new status
-notes-refused told names outcome before after count count' old new status refusal is cause tells explains =
-    subst (NoteGains told names outcome before after count count' old new) (sym is) (by_refusal refusal cause tells explains)
+pub notes-refused : (names : List (List ℕ)) (outcome : Option (Result Answer Refusal)) (before after : Ends)
+    (status : Status) (refusal : Refusal)
+    → status ≡ status_of refusal → HasCause names before.files after.files refusal
+    → Tells before.note after.note (line_of refusal) → IfSome outcome (Explains refusal)
+    → NoteGains names outcome before after status
+notes-refused names outcome before after status refusal is cause tells explains =
+    subst (NoteGains names outcome before after) (sym is) (by_refusal refusal cause tells explains)
   where
-    by_refusal : (refusal : Refusal) → HasCause told names before after refusal
-        → Tells count count' old new (line_of refusal) → IfSome outcome (Explains refusal)
-        → NoteGains told names outcome before after count count' old new (status_of refusal)
+    by_refusal : (refusal : Refusal) → HasCause names before.files after.files refusal
+        → Tells before.note after.note (line_of refusal) → IfSome outcome (Explains refusal)
+        → NoteGains names outcome before after (status_of refusal)
     by_refusal Words cause tells explains = (Words, (refl, (cause, (tells, explains))))
     by_refusal (CannotRead name) cause tells explains = (CannotRead name, (refl, (cause, (tells, explains))))
     by_refusal (TooLarge name) cause tells explains = (TooLarge name, (refl, (cause, (tells, explains))))
     by_refusal (BadText name fault) cause tells explains = (BadText name fault, (refl, (cause, (tells, explains))))
     by_refusal (BadPlan name fault) cause tells explains = (BadPlan name fault, (refl, (cause, (tells, explains))))
     by_refusal (Cycle ring) cause tells explains = (Cycle ring, (refl, (cause, (tells, explains))))
-    by_refusal (BadList fault count) cause tells explains = (BadList fault count, (refl, (cause, (tells, explains))))
+    by_refusal (BadList fault) cause tells explains = (BadList fault, (refl, (cause, (tells, explains))))
     by_refusal (Misfit misfit) cause tells explains = (Misfit misfit, (refl, (cause, (tells, explains))))
     by_refusal Memory cause tells explains = tells
 
 -- no name can be refused whose count did not rise
-pub not_refused : (told : Option (List (List ℕ × List ℕ))) (names : List (List ℕ)) (before after : FileCounts) (name : List ℕ)
-    → AreCalm names before after → IsRefusedAt told names (Rose (before.faults name) (after.faults name)) name → ⊥
-not_refused told names before after name calm refused =
+pub not_refused : (names : List (List ℕ)) (before after : FilesAt) (name : List ℕ)
+    → AreCalm names before after
+    → IsRefusedAt before.told names (Rose (before.faults name) (after.faults name)) name → ⊥
+not_refused names before after name calm refused =
     let within = slice_get_within names refused.place name refused.named in
     let same = get_or_from_slice_get names refused.place name name refused.named in
     let P : List ℕ → Type 0 = λ n. Rose (before.faults n) (after.faults n) → ⊥ in
     subst P same (calm refused.place name within) refused.shown
 
 -- the status is that of the outcome
-pub agrees-refused : (told : Option (List (List ℕ × List ℕ))) (names : List (List ℕ)) (before after : FileCounts)
+pub agrees-refused : (names : List (List ℕ)) (before after : FilesAt)
     (outcome : Result Answer Refusal) (status : Status) (refusal : Refusal)
-    → status ≡ status_of refusal → HasCause told names before after refusal → AreCalm names before after
+    → status ≡ status_of refusal → HasCause names before after refusal → AreCalm names before after
     → Explains refusal outcome → AgreesInFull outcome status
-agrees-refused told names before after outcome status refusal is cause calm explains =
+agrees-refused names before after outcome status refusal is cause calm explains =
     subst (AgreesInFull outcome) (sym is) (by_refusal refusal cause explains)
   where
-    by_refusal : (refusal : Refusal) → HasCause told names before after refusal → Explains refusal outcome
+    by_refusal : (refusal : Refusal) → HasCause names before after refusal → Explains refusal outcome
         → AgreesInFull outcome (status_of refusal)
     by_refusal Words cause explains = rw explains refl
-    by_refusal (CannotRead name) cause explains = absurd (not_refused told names before after name calm cause)
+    by_refusal (CannotRead name) cause explains = absurd (not_refused names before after name calm cause)
     by_refusal (TooLarge name) cause explains = rw explains refl
     by_refusal (BadText name fault) cause explains = rw explains refl
     by_refusal (BadPlan name fault) cause explains = rw explains refl
     by_refusal (Cycle ring) cause explains = rw explains refl
-    by_refusal (BadList fault count) cause explains = rw explains refl
+    by_refusal (BadList fault) cause explains = rw explains refl
     by_refusal (Misfit misfit) cause explains = rw explains refl
     by_refusal Memory cause explains = tt
 

@@ -2,29 +2,16 @@
 use Rattle.std.specs.Prelude.{ℕ, List, [], ◌∷◌, length, Option, None, Some, Result, Ok, Err, if◌then◌else◌, nat_lt}
 use Rattle.rc_instance.specs.declared.limits.TheConstants.{MAX_FILE_BYTES}
 use Rattle.rc_edge.specs.Files.{file_of}
-use Rattle.rcpsp_run.specs.declared.options.Options.{Options}
-use Rattle.rcpsp_run.specs.declared.options.Command.{Command}
-use Rattle.rcpsp_run.specs.declared.options.Command.TheVariants.{Schedule, Check, Convert, Windows}
-use Rattle.rcpsp_run.specs.declared.options.Order.{Order}
-use Rattle.rcpsp_run.specs.declared.options.Order.TheVariants as order
+use Rattle.rcpsp_words.specs.declared.words.Options.{Options}
+use Rattle.rcpsp_words.specs.declared.commands.Command.{Command}
+use Rattle.rcpsp_words.specs.Words.{options_of}
 use Rattle.rcpsp_run.specs.declared.refusal.Refusal.{Refusal}
 use Rattle.rcpsp_run.specs.declared.refusal.Refusal.TheVariants.{Words, CannotRead, TooLarge}
-use Rattle.rcpsp_run.specs.Words.{options_of}
-use Rattle.rcpsp_run.specs.Texts.{◌>>=◌}
-use Rattle.rcpsp_run.specs.Answers.{Answer, answer_of}
+use Rattle.rc_instance.specs.Results.{◌>>=◌}
+use Rattle.rcpsp_run.specs.Answer.{Answer}
+use Rattle.rcpsp_run.specs.Commands.{command_names, answer_of}
 
--- the name of the list file, where the list comes from one
-abbrev pub order_names : Order → List (List ℕ)
-order_names (order.Rule rule) = []
-order_names (order.List name) = name ∷ []
-
--- the names of the files of a command, in the order in which they are fetched
-abbrev pub command_names : Command → List (List ℕ)
-command_names (Schedule file format order form) = file ∷ order_names order
-command_names (Check file format plan) = file ∷ plan ∷ []
-command_names (Convert file format to) = file ∷ []
-command_names (Windows file format) = file ∷ []
-
+-- the names of the files that the words give, in the order in which they are fetched
 abbrev pub names_of : Option Options → List (List ℕ)
 names_of None = []
 names_of (Some options) = command_names options.command
@@ -32,7 +19,8 @@ names_of (Some options) = command_names options.command
 -- the bytes of a file, which is there and has no more than the limit
 abbrev pub within_limit : List ℕ → Option (List ℕ) → Result (List ℕ) Refusal
 within_limit name None = Err (CannotRead name)
-within_limit name (Some bytes) = if nat_lt MAX_FILE_BYTES (length bytes) then Err (TooLarge name) else Ok bytes
+within_limit name (Some bytes) =
+    if nat_lt MAX_FILE_BYTES (length bytes) then Err (TooLarge name) else Ok bytes
 
 -- the texts of the files of these names, in order
 unfoldable pub contents : List (List ℕ × List ℕ) → List (List ℕ) → Result (List (List ℕ)) Refusal

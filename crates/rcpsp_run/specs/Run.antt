@@ -1,49 +1,75 @@
 -- What a run promises: the cause of each status, which status it is, what the output and the note gain.
-use Rattle.std.specs.Prelude.{◌≡◌, ◌≢◌, ◌⊎◌, ℕ, ◌≤◌, List, All, Option, None, Some, IfSome, Result, Ok, Err, IsOkAnd, if◌then◌else◌}
-use Rattle.rc_edge.specs.Faults.{Rose}
+use Rattle.std.specs.Prelude.{◌≡◌, ◌≢◌, ◌⊎◌, ℕ, ◌≤◌, List, length, All}
+use Rattle.std.specs.Prelude.{Option, None, Some, IfSome, Result, Ok, Err, IsOkAnd}
+use Rattle.std.specs.Option.{option_map}
+use Rattle.rc_edge.specs.Faults.{Rose, counted_on}
 use Rattle.rc_edge.specs.Sink.{Gains, GainsPrefix}
 use Rattle.rcpsp_run.specs.declared.status.Status.{Status}
 use Rattle.rcpsp_run.specs.declared.status.Status.TheVariants.{Done, Violated, WriteFault, Words, Memory}
-use Rattle.rcpsp_run.specs.declared.options.Options.{Options}
+use Rattle.rcpsp_words.specs.declared.words.Options.{Options}
+use Rattle.rcpsp_words.specs.Words.{options_of}
 use Rattle.rcpsp_run.specs.declared.refusal.Refusal.{Refusal}
-use Rattle.rcpsp_run.specs.Answers.{Answer, IsPrintedBy}
+use Rattle.rcpsp_run.specs.Answer.{Answer, ending}
+use Rattle.rcpsp_run.specs.Commands.{IsPrintedBy}
 use Rattle.rcpsp_run.specs.Refusal.{status_of, line_of, write_line, memory_line}
-use Rattle.rcpsp_run.specs.Causes.{FileCounts, FilesStand, HasCause, Explains}
+use Rattle.rcpsp_run.specs.Outcome.{names_of, outcome}
+use Rattle.rcpsp_run.specs.Causes.{FilesAt, FilesStand, FetchesAtMost, HasCause, Explains}
 
--- the counts of the files by name, of the output and of the note, at one moment
-pub record Counts : Type 0 where
-  pub files : FileCounts
-  pub out : ℕ
-  pub note : ℕ
+-- a sink at one moment: the bytes that it tells, its faults, the puts that fail on purpose, and its room
+pub record SinkAt : Type 0 where
+  pub held : Option (List ℕ)
+  pub faults : ℕ
+  pub failing : Option (List ℕ)
+  pub room : Option ℕ
 
--- no count rose
-abbrev pub AllStand : Counts → Counts → Type 0
-AllStand before after =
-    FilesStand before.files after.files × (after.out ≡ before.out) × (after.note ≡ before.note)
+-- what a run reads and writes, at one moment
+pub record Ends : Type 0 where
+  pub files : FilesAt
+  pub out : SinkAt
+  pub note : SinkAt
+
+-- what a caller of generic code rests on stands
+pub record EndsStand (before after : Ends) : Type 0 where
+  pub told : after.files.told ≡ before.files.told
+  pub failing : after.files.failing ≡ before.files.failing
+  pub out_failing : after.out.failing ≡ before.out.failing
+  pub out_room : after.out.room ≡ before.out.room
+  pub note_failing : after.note.failing ≡ before.note.failing
+  pub note_room : after.note.room ≡ before.note.room
+
+-- no count of faults rose
+abbrev pub AllStand : Ends → Ends → Type 0
+AllStand before after = FilesStand before.files after.files
+    × (after.out.faults ≡ before.out.faults) × (after.note.faults ≡ before.note.faults)
 
 -- a status has its cause: `Done` and `Violated` come where no count rose at all, a write fault where the count of
 -- the output rose, and each other status by a refusal that has its cause; want of memory may come at any place
-abbrev pub IsCaused : Option (List (List ℕ × List ℕ)) → List (List ℕ) → Counts → Counts → Status → Type 0
-IsCaused told names before after Done = AllStand before after
-IsCaused told names before after Violated = AllStand before after
-IsCaused told names before after WriteFault =
-    FilesStand before.files after.files × Rose before.out after.out
-IsCaused told names before after Memory = Unit {0}
-IsCaused told names before after status =
-    (refusal : Refusal) × (status_of refusal ≡ status) × HasCause told names before.files after.files refusal
+abbrev pub IsCaused : List (List ℕ) → Ends → Ends → Status → Type 0
+IsCaused names before after Done = AllStand before after
+IsCaused names before after Violated = AllStand before after
+IsCaused names before after WriteFault =
+    FilesStand before.files after.files × Rose before.out.faults after.out.faults
+IsCaused names before after Memory = Unit {0}
+IsCaused names before after status =
+    (refusal : Refusal) × (status_of refusal ≡ status) × HasCause names before.files after.files refusal
 
 -- `Words` comes exactly where the words have no options; memory may run out in its place
 abbrev pub IsOfWords : Option Options → Status → Type 0
 IsOfWords None status = (status ≡ Words) ⊎ (status ≡ Memory)
 IsOfWords (Some options) status = status ≢ Words
 
--- no count of faults of a name that the words give rose
-abbrev pub AreCalm : List (List ℕ) → FileCounts → FileCounts → Type 0
-AreCalm names before after = All (λ name. Rose (before.faults name) (after.faults name) → ⊥) names
+-- how many fetches are made: one for each name where the output is made, none where the words are not
+-- understood, and else no more than one for each name
+abbrev pub MakesFetches : List (List ℕ) → FilesAt → FilesAt → Status → Type 0
+MakesFetches names before after Done = after.fetches ≡ counted_on before.fetches (length names)
+MakesFetches names before after Violated = after.fetches ≡ counted_on before.fetches (length names)
+MakesFetches names before after WriteFault = after.fetches ≡ counted_on before.fetches (length names)
+MakesFetches names before after Words = after.fetches ≡ before.fetches
+MakesFetches names before after status = FetchesAtMost (length names) before after
 
--- how a run ends whose output is written: a violation has a status of its own
-abbrev pub ending : Answer → Status
-ending answer = if answer.violated then Violated else Done
+-- no count of faults of a name that the words give rose
+abbrev pub AreCalm : List (List ℕ) → FilesAt → FilesAt → Type 0
+AreCalm names before after = All (λ name. Rose (before.faults name) (after.faults name) → ⊥) names
 
 -- the status is that of the outcome, or memory ran out, or an output could not be written
 abbrev pub Agrees : Result Answer Refusal → Status → Type 0
@@ -60,39 +86,73 @@ AgreesInFull (Err refusal) status = status ≡ status_of refusal
 
 -- where the files tell their map, the output gains the outcome's text, or a prefix of it where the write
 -- failed; at every other status it gains nothing
-abbrev pub OutputGains : Option (Result Answer Refusal) → Option (List ℕ) → Option (List ℕ) → Status → Type 0
-OutputGains outcome old new Done = IfSome outcome (λ given. IsOkAnd given (λ answer. Gains old new answer.text))
-OutputGains outcome old new Violated = IfSome outcome (λ given. IsOkAnd given (λ answer. Gains old new answer.text))
-OutputGains outcome old new WriteFault =
-    IfSome outcome (λ given. IsOkAnd given (λ answer. GainsPrefix old new answer.text))
-OutputGains outcome old new status = new ≡ old
+abbrev pub OutputGains : Option (Result Answer Refusal) → SinkAt → SinkAt → Status → Type 0
+OutputGains outcome before after Done =
+    IfSome outcome (λ given. IsOkAnd given (λ answer. Gains before.held after.held answer.text))
+OutputGains outcome before after Violated =
+    IfSome outcome (λ given. IsOkAnd given (λ answer. Gains before.held after.held answer.text))
+OutputGains outcome before after WriteFault =
+    IfSome outcome (λ given. IsOkAnd given (λ answer. GainsPrefix before.held after.held answer.text))
+OutputGains outcome before after status = after.held ≡ before.held
+
+-- what is so at each status at which nothing is put on the output
+abbrev pub Unwritten : Type 0 → Status → Type 0
+Unwritten so Done = Unit {0}
+Unwritten so Violated = Unit {0}
+Unwritten so WriteFault = Unit {0}
+Unwritten so status = so
 
 -- the output gains what the command prints, at this status and whatever the files tell
-abbrev pub Prints : Option Options → Option (List ℕ) → Option (List ℕ) → Status → Type 0
-Prints None old new status = ⊥
-Prints (Some options) old new status =
-    (answer : Answer) × IsPrintedBy options.command answer × (status ≡ ending answer) × Gains old new answer.text
+abbrev pub Prints : Option Options → SinkAt → SinkAt → Status → Type 0
+Prints None before after status = ⊥
+Prints (Some options) before after status = (answer : Answer)
+    × IsPrintedBy options.command answer × (status ≡ ending answer) × Gains before.held after.held answer.text
 
 -- where a run writes its output, that is what its command prints
-abbrev pub PrintsOutput : Option Options → Option (List ℕ) → Option (List ℕ) → Status → Type 0
-PrintsOutput options old new Done = Prints options old new Done
-PrintsOutput options old new Violated = Prints options old new Violated
-PrintsOutput options old new status = Unit {0}
+abbrev pub PrintsOutput : Option Options → SinkAt → SinkAt → Status → Type 0
+PrintsOutput options before after Done = Prints options before after Done
+PrintsOutput options before after Violated = Prints options before after Violated
+PrintsOutput options before after status = Unit {0}
 
 -- the note gains a line, or a prefix of it where its count rose
-pub record Tells (before after : ℕ) (old new : Option (List ℕ)) (line : List ℕ) : Type 0 where
-  pub later : before ≤ after
-  pub part : GainsPrefix old new line
-  pub whole : (Rose before after → ⊥) → Gains old new line
+pub record Tells (before after : SinkAt) (line : List ℕ) : Type 0 where
+  pub later : before.faults ≤ after.faults
+  pub part : GainsPrefix before.held after.held line
+  pub whole : (Rose before.faults after.faults → ⊥) → Gains before.held after.held line
 
 -- the note gains nothing where the output was written, and the line of the status at every other: that of a
 -- refusal which has its cause, and which is the outcome's where the files tell their map
-abbrev pub NoteGains : Option (List (List ℕ × List ℕ)) → List (List ℕ) → Option (Result Answer Refusal)
-    → FileCounts → FileCounts → ℕ → ℕ → Option (List ℕ) → Option (List ℕ) → Status → Type 0
-NoteGains told names outcome before after count count' old new Done = new ≡ old
-NoteGains told names outcome before after count count' old new Violated = new ≡ old
-NoteGains told names outcome before after count count' old new WriteFault = Tells count count' old new write_line
-NoteGains told names outcome before after count count' old new Memory = Tells count count' old new memory_line
-NoteGains told names outcome before after count count' old new status =
-    (refusal : Refusal) × ((status_of refusal ≡ status) × (HasCause told names before after refusal
-    × (Tells count count' old new (line_of refusal) × IfSome outcome (Explains refusal))))
+abbrev pub NoteGains : List (List ℕ) → Option (Result Answer Refusal) → Ends → Ends → Status → Type 0
+NoteGains names outcome before after Done = after.note.held ≡ before.note.held
+NoteGains names outcome before after Violated = after.note.held ≡ before.note.held
+NoteGains names outcome before after WriteFault = Tells before.note after.note write_line
+NoteGains names outcome before after Memory = Tells before.note after.note memory_line
+NoteGains names outcome before after status =
+    (refusal : Refusal) × ((status_of refusal ≡ status) × (HasCause names before.files after.files refusal
+    × (Tells before.note after.note (line_of refusal) × IfSome outcome (Explains refusal))))
+
+-- what a run of these words promises of what it reads and writes, before and after, and of its status
+pub record Promises (words : List (List ℕ)) (before after : Ends) (status : Status) : Type 0 where
+  -- each status has its cause
+  pub causes : IsCaused (names_of (options_of words)) before after status
+  -- `Words` comes exactly where the words are not understood
+  pub understood : IsOfWords (options_of words) status
+  -- no file is fetched twice, and none that the words do not name
+  pub fetches : MakesFetches (names_of (options_of words)) before.files after.files status
+  -- where the files tell their map and no count of a given name rose, the status is the outcome's, or memory ran
+  -- out, or the output could not be written
+  pub agrees : IfSome before.files.told (λ pairs.
+      AreCalm (names_of (options_of words)) before.files after.files → Agrees (outcome words pairs) status)
+  -- where besides the count of the output did not rise, the status is the outcome's, or memory ran out
+  pub complete : IfSome before.files.told (λ pairs.
+      AreCalm (names_of (options_of words)) before.files after.files
+      → (Rose before.out.faults after.out.faults → ⊥) → AgreesInFull (outcome words pairs) status)
+  -- the output gains the outcome's text, or a prefix of it where the write failed, and else nothing
+  pub output : OutputGains (option_map (outcome words) before.files.told) before.out after.out status
+  -- whatever the files tell, that is what the command prints of some instance
+  pub prints : PrintsOutput (options_of words) before.out after.out status
+  -- the note gains the line of the status, and nothing where the output was written
+  pub notes : NoteGains (names_of (options_of words)) (option_map (outcome words) before.files.told)
+      before after status
+  -- what a caller of generic code rests on stands
+  pub stand : EndsStand before after

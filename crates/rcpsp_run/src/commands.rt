@@ -1,112 +1,88 @@
-ghost use Rattle.std.specs.Prelude.{◌≡◌};
-ghost use Rattle.rcpsp_run.specs.Given.{given_by};
-ghost use Rattle.rcpsp_run.specs.Words.{command_of, schedule_of, check_of, convert_of, windows_of, file_format, IsUnderstood, Reads};
+//! What each command does: one file each, and the dispatch.
+ghost use Rattle.std.specs.Prelude.{◌≢◌, Err, IfOk};
+ghost use Rattle.rcpsp_run.specs.declared.refusal.Refusal.TheVariants.{Words};
+ghost use Rattle.rcpsp_run.specs.Answer.{answer_view};
+ghost use Rattle.rcpsp_run.specs.Commands.{command_names, IsPrintedBy};
+ghost use Rattle.rcpsp_run.specs.Outcome.{command_outcome};
+ghost use Rattle.rcpsp_run.specs.Causes.{Comes};
 
-use crate::gathered::Gathered;
-use crate::name::Name;
-use crate::options::{Command, Format};
-use crate::table::Verb;
-use crate::values::{are_names, form_of, format_named, format_of, order_of};
-use crate::words::WordsFault;
+mod check;
+mod convert;
+mod parallel;
+mod sample;
+mod schedule;
+mod trial;
+mod windows;
+
+use crate::answer::Answer;
+use crate::fetch::fetch;
+use crate::refusal::Refusal;
+use check::check_answer;
+use convert::convert_answer;
+use parallel::{parallel_answer, parallel_names};
+use rc_edge::Files;
+use rcpsp_words::Command;
+use sample::sample_answer;
+use schedule::{schedule_answer, schedule_names};
 use std::alloc::Global;
+use std::thread::Threads;
+use trial::trial_answer;
+use windows::windows_answer;
 
-/// A command by what its words give.
-pub(crate) fn command_of(
+/// What a command comes to: its files are fetched, and then their texts are read.
+pub(crate) fn carry_out<R: Threads + Sync, F: Files>(
+    rt: &R,
     alloc: Global,
-    verb: Verb,
-    gathered: &Gathered<'_>,
-) -> Result<Command, WordsFault>
-    ensures { IsUnderstood (command_of verb (given_by gathered.now)) result }
+    command: &Command,
+    files: &mut F,
+) -> Result<Answer, Refusal>
+    ensures comes { Comes answer_view (command_names command.now)
+        (λ pairs. command_outcome pairs command.now)
+        (record {
+          told = F.told files.old;
+          failing = F.failing files.old;
+          faults = F.faults files.old;
+          long = F.long files.old;
+          fetches = F.fetches files.old;
+        })
+        (record {
+          told = F.told files.new;
+          failing = F.failing files.new;
+          faults = F.faults files.new;
+          long = F.long files.new;
+          fetches = F.fetches files.new;
+        }) result }
+    ensures printed { IfOk result (λ answer. IsPrintedBy command.now (answer_view answer)) }
+    ensures understood { result ≢ Err Words }
 {
-    match verb {
-        Verb::Schedule => schedule_of(alloc, gathered),
-        Verb::Check => check_of(alloc, gathered),
-        Verb::Convert => convert_of(alloc, gathered),
-        Verb::Windows => windows_of(alloc, gathered),
+    match command {
+        Command::Schedule(command) => {
+            let names = schedule_names(alloc, command)?;
+            let texts = fetch(alloc, &names, files)?;
+            schedule_answer(alloc, command, &texts)
+        }
+        Command::Parallel(command) => {
+            let names = parallel_names(alloc, command)?;
+            let texts = fetch(alloc, &names, files)?;
+            parallel_answer(alloc, command, &texts)
+        }
+        Command::Sample(command) => {
+            let texts = fetch(alloc, &[command.file.text()], files)?;
+            sample_answer(rt, alloc, command, &texts)
+        }
+        Command::Check(command) => {
+            let names = [command.file.text(), command.plan.text()];
+            let texts = fetch(alloc, &names, files)?;
+            check_answer(alloc, command, &texts)
+        }
+        Command::Convert(command) => {
+            let texts = fetch(alloc, &[command.file.text()], files)?;
+            convert_answer(alloc, command, &texts)
+        }
+        Command::Windows(command) => {
+            let texts = fetch(alloc, &[command.file.text()], files)?;
+            windows_answer(alloc, command, &texts)
+        }
+        Command::Trial(command) => trial_answer(alloc, command),
     }
-}
-
-// The format of the file of this name.
-#[tactic(auto, unfolding(crate::specs::Words::file_format))]
-fn file_format(gathered: &Gathered<'_>, file: &str) -> Result<Format, WordsFault>
-    ensures { IsUnderstood (file_format (given_by gathered.now) file.now) result }
-{
-    let named = gathered.value("format")?;
-    format_of(file, named).ok_or(WordsFault::Undefined)
-}
-
-// The command `schedule`.
-#[tactic(auto, unfolding(crate::specs::Words::schedule_of))]
-fn schedule_of(alloc: Global, gathered: &Gathered<'_>) -> Result<Command, WordsFault>
-    ensures { IsUnderstood (schedule_of (given_by gathered.now)) result }
-{
-    let [file] = gathered.positional() else {
-        return Err(WordsFault::Undefined);
-    };
-    let format = file_format(gathered, file)?;
-    let rule = gathered.value("rule")?;
-    let list = gathered.value("list")?;
-    let order = order_of(alloc, rule, list)?;
-    let form = form_of(gathered.value("as")?).ok_or(WordsFault::Undefined)?;
-    if !are_names(&[Some(*file), list]) {
-        return Err(WordsFault::Undefined);
-    }
-    let file = Name::of(alloc, file)?;
-    Ok(Command::Schedule {
-        file,
-        format,
-        order,
-        form,
-    })
-}
-
-// The command `check`.
-#[tactic(auto, unfolding(crate::specs::Words::check_of))]
-fn check_of(alloc: Global, gathered: &Gathered<'_>) -> Result<Command, WordsFault>
-    ensures { IsUnderstood (check_of (given_by gathered.now)) result }
-{
-    let [file, plan] = gathered.positional() else {
-        return Err(WordsFault::Undefined);
-    };
-    let format = file_format(gathered, file)?;
-    if !are_names(&[Some(*file), Some(*plan)]) {
-        return Err(WordsFault::Undefined);
-    }
-    let file = Name::of(alloc, file)?;
-    let plan = Name::of(alloc, plan)?;
-    Ok(Command::Check { file, format, plan })
-}
-
-// The command `convert`.
-#[tactic(auto, unfolding(crate::specs::Words::convert_of))]
-fn convert_of(alloc: Global, gathered: &Gathered<'_>) -> Result<Command, WordsFault>
-    ensures { IsUnderstood (convert_of (given_by gathered.now)) result }
-{
-    let [file] = gathered.positional() else {
-        return Err(WordsFault::Undefined);
-    };
-    let format = file_format(gathered, file)?;
-    let word = gathered.value("to")?.ok_or(WordsFault::Undefined)?;
-    let to = format_named(word).ok_or(WordsFault::Undefined)?;
-    if !are_names(&[Some(*file)]) {
-        return Err(WordsFault::Undefined);
-    }
-    let file = Name::of(alloc, file)?;
-    Ok(Command::Convert { file, format, to })
-}
-
-// The command `windows`.
-#[tactic(auto, unfolding(crate::specs::Words::windows_of))]
-fn windows_of(alloc: Global, gathered: &Gathered<'_>) -> Result<Command, WordsFault>
-    ensures { IsUnderstood (windows_of (given_by gathered.now)) result }
-{
-    let [file] = gathered.positional() else {
-        return Err(WordsFault::Undefined);
-    };
-    let format = file_format(gathered, file)?;
-    if !are_names(&[Some(*file)]) {
-        return Err(WordsFault::Undefined);
-    }
-    let file = Name::of(alloc, file)?;
-    Ok(Command::Windows { file, format })
 }

@@ -2,45 +2,23 @@
 #![tactic(auto)]
 
 mod answer;
-mod check;
+pub mod calendar_laws;
 mod commands;
-mod convert;
-mod decide;
 mod fetch;
-mod gathered;
-mod lists;
-mod name;
-mod number;
-mod options;
-mod part;
+mod in_memory;
+mod program;
 mod refusal;
-mod schedule;
+mod runs;
 mod status;
-mod table;
-mod texts;
-mod top_call;
-mod values;
-mod windows;
-mod words;
+mod steps;
 
-pub use name::Name;
-pub use options::{Command, Form, Format, Options, Order};
+pub use in_memory::run_in_memory;
+pub use program::{Given, exit_code};
+pub use rcpsp_words as words;
+pub use rcpsp_words::{
+    Command, Form, Format, Name, Options, Order, Samples, Shown, Size, WordsFault, Workers,
+    read_words,
+};
 pub use refusal::Refusal;
+pub use runs::run;
 pub use status::Status;
-pub use top_call::run;
-pub use words::{WordsFault, read_words};
-
-#[cfg(test)]
-mod cases;
-#[cfg(test)]
-mod check_tests;
-#[cfg(test)]
-mod format_tests;
-#[cfg(test)]
-mod order_tests;
-#[cfg(test)]
-mod schedule_tests;
-#[cfg(test)]
-mod tests;
-#[cfg(test)]
-mod words_tests;

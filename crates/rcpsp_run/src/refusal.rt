@@ -1,13 +1,12 @@
 ghost use Rattle.std.specs.Prelude.{◌≡◌};
-ghost use Rattle.std.specs.Fmt.{WritesOnOk};
-ghost use Rattle.rcpsp_run.specs.Refusal.{status_of, ring_words, list_words};
+ghost use Rattle.rcpsp_run.specs.Refusal.{status_of};
 
-use crate::name::Name;
 use crate::status::Status;
-use crate::words::WordsFault;
 use activity_net::{ListFault, Ring};
 use rc_edge::TextFault;
+use rc_instance::limits::MAX_FILE_BYTES;
 use rc_instance::{Memory, Misfit};
+use rcpsp_words::{Name, WordsFault};
 use schedule_check::PlanFault;
 use std::fmt;
 
@@ -32,8 +31,8 @@ pub enum Refusal {
     /// The precedence has a cycle.
     Cycle(Ring),
 
-    /// A list is no feasible order of so many activities: its first fault, which is never `Memory`.
-    BadList { fault: ListFault, activities: u32 },
+    /// A list is no feasible order of the activities: its first fault, which is never `Memory`.
+    BadList(ListFault),
 
     /// A demand is above the last capacity.
     Misfit(Misfit),
@@ -53,7 +52,7 @@ impl Refusal {
             Refusal::TooLarge { .. } => Status::TooLarge,
             Refusal::BadText { .. } | Refusal::BadPlan { .. } => Status::BadText,
             Refusal::Cycle(_) => Status::Cycle,
-            Refusal::BadList { .. } => Status::BadList,
+            Refusal::BadList(_) => Status::BadList,
             Refusal::Misfit(_) => Status::Misfit,
             Refusal::Memory => Status::Memory,
         }
@@ -70,29 +69,15 @@ impl fmt::Display for Refusal {
         match self {
             Refusal::Words => f.write_str("words not understood"),
             Refusal::CannotRead { name } => write!(f, "cannot read {name}"),
-            Refusal::TooLarge { name } => write!(f, "{name} is larger than 4194304 bytes"),
-            Refusal::BadText { name, fault } => {
-                let kind = fault.kind;
-                let at = fault.at;
-                write!(f, "{name}: {kind} at {at}")
+            Refusal::TooLarge { name } => {
+                let limit = MAX_FILE_BYTES;
+                write!(f, "{name} is larger than {limit} bytes")
             }
-            Refusal::BadPlan { name, fault } => {
-                let kind = fault.kind;
-                let row = fault.row;
-                write!(f, "{name}: {kind} in record {row}")
-            }
-            Refusal::Cycle(ring) => write_ring(f, ring.numbers()),
-            Refusal::BadList { fault, activities } => write_list_fault(f, *fault, *activities),
-            Refusal::Misfit(misfit) => {
-                let activity = misfit.activity;
-                let demand = misfit.demand;
-                let resource = misfit.resource;
-                let capacity = misfit.capacity;
-                write!(
-                    f,
-                    "activity {activity} needs {demand} of resource {resource}, capacity {capacity}"
-                )
-            }
+            Refusal::BadText { name, fault } => write!(f, "{name}: {fault}"),
+            Refusal::BadPlan { name, fault } => write!(f, "{name}: {fault}"),
+            Refusal::Cycle(ring) => ring.fmt(f),
+            Refusal::BadList(fault) => fault.fmt(f),
+            Refusal::Misfit(misfit) => misfit.fmt(f),
             Refusal::Memory => f.write_str("out of memory"),
         }
     }
@@ -118,44 +103,5 @@ impl From<WordsFault> for Refusal {
             WordsFault::Undefined => Refusal::Words,
             WordsFault::Memory => Refusal::Memory,
         }
-    }
-}
-
-// The numbers of a cycle in their order, and the first of them once more.
-fn write_ring<W: fmt::Write>(f: &mut fmt::Formatter<W>, numbers: &[u32]) -> fmt::Result
-    ensures { WritesOnOk W.write_str_gives f.old result (ring_words numbers.now) f.new }
-{
-    f.write_str("cycle")?;
-    for number in numbers {
-        write!(f, " {number}")?;
-    }
-    match numbers {
-        [] => Ok(()),
-        [first, ..] => write!(f, " {first}"),
-    }
-}
-
-// Why a list for so many activities is not feasible.
-fn write_list_fault<W: fmt::Write>(
-    f: &mut fmt::Formatter<W>,
-    fault: ListFault,
-    activities: u32,
-) -> fmt::Result
-    ensures { WritesOnOk W.write_str_gives f.old result (list_words fault activities) f.new }
-{
-    match fault {
-        ListFault::Length { found } => {
-            write!(f, "list: {found} numbers for {activities} activities")
-        }
-        ListFault::Unknown { position } => write!(f, "list: position {position} is unknown"),
-        ListFault::Repeated { position } => write!(f, "list: position {position} is repeated"),
-        ListFault::TooEarly {
-            position,
-            predecessor,
-        } => write!(
-            f,
-            "list: position {position} comes before predecessor {predecessor}"
-        ),
-        ListFault::Memory => f.write_str("out of memory"),
     }
 }

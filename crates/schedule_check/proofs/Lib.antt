@@ -7,6 +7,7 @@ pub mod FeasibleLaws
 pub mod FirstLaws
 pub mod NameLaws
 pub mod PlanLaws
+pub mod PlanRecordLaws
 pub mod RecordLaws
 mod Rows
 pub mod SameLaws

@@ -1,5 +1,5 @@
 -- The main laws of plans, each over all projects.
-use Rattle.std.specs.Prelude.{◌≡◌, ℕ, ◌≤◌, List, length, map, None, Ok}
+use Rattle.std.specs.Prelude.{◌≡◌, ◌↔◌, ℕ, ◌≤◌, List, length, map, None, Ok, Err}
 use Rattle.rc_instance.specs.Lists.{numbers}
 use Rattle.rc_instance.specs.Project.{Project, activity_count}
 use Rattle.rc_instance.specs.Usage.{Booking, last_finish}
@@ -9,7 +9,9 @@ use Rattle.rc_instance.specs.Misfit.{HasNoMisfit}
 use Rattle.rc_instance.specs.Order.{IsFeasibleList}
 use Rattle.rc_instance.specs.declared.limits.TheConstants.{MAX_ACTIVITIES, MAX_HORIZON}
 use Rattle.gantt_table.specs.Csv.{csv_text}
-use Rattle.schedule_check.specs.Reading.{read_plan_of}
+use Rattle.schedule_check.specs.declared.plan_fault.PlanFault.{PlanFault}
+use Rattle.schedule_check.specs.PlanRecords.{ArePlan, IsFirstFault}
+use Rattle.schedule_check.specs.Reading.{plan_of, read_plan_of}
 use Rattle.schedule_check.specs.Violation.{first_violation}
 
 -- the start that bookings give to each activity, in order of number
@@ -27,6 +29,16 @@ PlanWithoutViolationIsFeasible = (project : Project) (bookings : List Booking)
 abbrev pub FeasibleScheduleHasNoViolation : Type 0
 FeasibleScheduleHasNoViolation = (project : Project) (starts : List ℕ)
     → IsFeasible project starts → first_violation project (bookings_of starts) ≡ None
+
+-- records are read as bookings exactly where they give them, each for itself
+abbrev pub PlanIsThatOfItsRecords : Type 0
+PlanIsThatOfItsRecords = (records : List (List (List ℕ))) (bookings : List Booking)
+    → (plan_of records ≡ Ok bookings) ↔ ArePlan records bookings
+
+-- and they are refused exactly with the fault of the first that has one
+abbrev pub FaultIsThatOfTheFirstRecord : Type 0
+FaultIsThatOfTheFirstRecord = (records : List (List (List ℕ))) (fault : PlanFault)
+    → (plan_of records ≡ Err fault) ↔ IsFirstFault records fault
 
 -- the CSV of a schedule with small starts is read as its bookings, in order of number
 abbrev pub CsvIsReadBack : Type 0

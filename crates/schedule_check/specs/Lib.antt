@@ -1,6 +1,7 @@
 pub mod Plan
 pub mod PlanFault
 pub mod Reading
+pub mod PlanRecords
 pub mod Violation
 pub mod Turning
 pub mod Records

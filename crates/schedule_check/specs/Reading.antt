@@ -1,8 +1,9 @@
 -- The plan that a text is, or its first fault.
-use Rattle.std.specs.Prelude.{◌≡◌, ℕ, ◌+◌, ◌&&◌, Bool, false, List, [], ◌∷◌, ◌++◌, Option, None, Some, Result, Ok, Err, codes, if◌then◌else◌}
+use Rattle.std.specs.Prelude.{ℕ, ◌+◌, ◌&&◌, Bool, false, List, [], ◌∷◌, ◌++◌, Option, None, Some, Result, Ok, Err, codes, if◌then◌else◌}
 use Rattle.std.specs.Str.{bytes_eq}
 use Rattle.csv.specs.Reading.{records, default_config, strip_bom}
 use Rattle.csv.specs.Records.{field_at}
+use Rattle.rc_instance.specs.Results.{◌>>=◌}
 use Rattle.rc_instance.specs.Usage.{Booking}
 use Rattle.rc_edge.specs.declared.number.NumberFault.{NumberFault}
 use Rattle.rc_edge.specs.declared.number.NumberFault.TheVariants as number
@@ -10,13 +11,6 @@ use Rattle.rc_edge.specs.Numbers.{number_of}
 use Rattle.schedule_check.specs.declared.plan_fault.PlanKind.{PlanKind}
 use Rattle.schedule_check.specs.declared.plan_fault.PlanKind.TheVariants.{NotHeader, TooFewFields, NotANumber, NumberTooLarge, Memory}
 use Rattle.schedule_check.specs.declared.plan_fault.PlanFault.{PlanFault}
-
--- one step after another, up to the first fault
-infixl 10 ◌>>=◌
-abbrev pub ◌>>=◌ : {A B : Type 0} → Result A PlanFault → (A → Result B PlanFault)
-    → Result B PlanFault
-(Ok x) >>= f = f x
-(Err fault) >>= f = Err fault
 
 -- a fault of a kind, in the record of this number
 abbrev pub refused : {A : Type 0} → PlanKind → ℕ → Result A PlanFault
@@ -72,13 +66,3 @@ read_plan_of bytes = plan_of (records default_config (strip_bom bytes))
 -- a fault for want of memory names no record
 abbrev pub out_of_memory : PlanFault
 out_of_memory = record { kind = Memory; row = 0 }
-
--- what was refused is the first fault, unless memory ran out
-abbrev pub FailsAs : {A : Type 0} → PlanKind → PlanFault → Result A PlanFault → Type 0
-FailsAs Memory fault read = fault ≡ out_of_memory
-FailsAs _ fault read = read ≡ Err fault
-
--- what was read is what the definition says, or memory ran out
-abbrev pub Reads : {X Y : Type 0} → (X → Y) → Result X PlanFault → Result Y PlanFault → Type 0
-Reads view (Ok x) read = read ≡ Ok (view x)
-Reads view (Err fault) read = FailsAs fault.kind fault read

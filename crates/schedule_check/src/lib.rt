@@ -21,11 +21,11 @@
 #![tactic(auto)]
 
 mod check_fault;
-mod early;
+mod early_starts;
 mod fields;
 pub mod laws;
 mod naming;
-mod over;
+mod over_capacity;
 mod placement;
 mod plan;
 mod plan_fault;

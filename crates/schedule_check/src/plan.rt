@@ -1,4 +1,4 @@
-ghost use Rattle.std.specs.Prelude.{◌≡◌, [], ◌∷◌, ◌++◌, OnOk};
+ghost use Rattle.std.specs.Prelude.{◌≡◌, [], ◌∷◌, ◌++◌, OnOk, OnErr};
 ghost use Rattle.schedule_check.specs.Plan.{booking_of, bookings_in};
 
 use crate::placement::Placement;
@@ -34,9 +34,10 @@ impl Plan {
         }
     }
 
-    /// Adds a placement behind all others.
+    /// Adds a placement behind all others. At want of memory the plan is what it was.
     pub fn push(&mut self, placement: Placement) -> Result<(), Memory>
-        ensures { OnOk result (self.new ≡ self.old ++ booking_of placement ∷ []) }
+        ensures added { OnOk result (self.new ≡ self.old ++ booking_of placement ∷ []) }
+        ensures kept { OnErr result (self.new ≡ self.old) }
     {
         self.placements.push(placement)?;
         Ok(())

@@ -1,4 +1,4 @@
-use std::alloc::{AllocError, AllocFailed};
+use std::error::Error;
 use std::fmt;
 
 /// What is wrong with the text of a plan.
@@ -46,6 +46,22 @@ impl fmt::Display for PlanKind {
         })
     }
 }
+
+impl Error for PlanKind {}
+
+impl fmt::Display for PlanFault {
+    ghost use Rattle.std.specs.Prelude.{Some};
+    ghost use Rattle.schedule_check.specs.PlanFault.{plan_fault_words};
+
+    ghost output = { λ fault. Some (plan_fault_words fault) };
+
+    fn fmt<W: fmt::Write>(&self, f: &mut fmt::Formatter<W>) -> fmt::Result {
+        let PlanFault { kind, row } = *self;
+        write!(f, "{kind} in record {row}")
+    }
+}
+
+impl Error for PlanFault {}
 
 impl From<rc_instance::Memory> for PlanFault {
     ghost use Rattle.std.specs.Prelude.{◌≡◌};

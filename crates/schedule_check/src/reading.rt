@@ -1,6 +1,7 @@
-ghost use Rattle.std.specs.Prelude.{◌≡◌, ◌+◌, ◌≤◌, [], length, IfErr, OnOk};
+ghost use Rattle.std.specs.Prelude.{◌≡◌, ◌⊎◌, ◌+◌, ◌≤◌, [], length, Err, IfErr, OnOk};
 ghost use Rattle.rc_instance.specs.declared.limits.TheConstants.{MAX_FILE_BYTES};
-ghost use Rattle.schedule_check.specs.Reading.{FailsAs, Reads, bookings_read, plan_of, read_plan_of};
+ghost use Rattle.rc_instance.specs.Results.{GivesOr};
+ghost use Rattle.schedule_check.specs.Reading.{bookings_read, out_of_memory, plan_of, read_plan_of};
 ghost use Rattle.schedule_check.specs.Records.{IsReading, records_left};
 
 use crate::fields::{is_header, placement_in};
@@ -20,7 +21,7 @@ use std::alloc::Global;
 /// may come at any place, and its row is 0.
 pub fn read_plan(alloc: Global, bytes: &[u8]) -> Result<Plan, PlanFault>
     requires { length bytes.now ≤ MAX_FILE_BYTES }
-    ensures { Reads (λ plan. plan) result (read_plan_of bytes.now) }
+    ensures { GivesOr out_of_memory (λ plan. plan) result (read_plan_of bytes.now) }
 {
     let mut reader = reader_of(alloc, bytes);
     let mut fields = ByteRecord::new(alloc);
@@ -38,7 +39,7 @@ fn read_header(reader: &mut Reader<&[u8]>, fields: &mut ByteRecord) -> Result<()
     ensures count { OnOk result (length (records_left reader.new)
         ≤ length (records_left reader.old)) }
     ensures refused { IfErr result (λ fault.
-        FailsAs fault.kind fault (plan_of (records_left reader.old))) }
+        (plan_of (records_left reader.old) ≡ Err fault) ⊎ (fault ≡ out_of_memory)) }
 {
     if read_next(reader, fields)? && is_header(fields) {
         Ok(())
@@ -58,7 +59,8 @@ fn read_placements(
 ) -> Result<Plan, PlanFault>
     requires reading { IsReading reader.old }
     requires count { length (records_left reader.old) ≤ MAX_FILE_BYTES + 1 }
-    ensures { Reads (λ plan. plan) result (bookings_read 2 [] (records_left reader.old)) }
+    ensures { GivesOr out_of_memory (λ plan. plan) result
+        (bookings_read 2 [] (records_left reader.old)) }
 {
     let mut plan = Plan::new(alloc);
     let mut row = 2;

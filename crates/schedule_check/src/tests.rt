@@ -1,4 +1,4 @@
-use crate::{CheckFault, Placement, Plan, PlanKind, Violation, check, read_plan};
+use crate::{CheckFault, Placement, Plan, PlanFault, PlanKind, Violation, check, read_plan};
 use gantt_table::csv_table;
 use rc_instance::limits::MAX_HORIZON;
 use rc_instance::{Change, Instance, Parts, Schedule};
@@ -297,16 +297,18 @@ fn words_of_violations_and_faults(rt: HostRuntime) -> Result<(), Fail> {
             "violation: resource 1 is used 4294967298 of 2 in period 4294967295",
         ),
     ] {
-        assert_eq!(rt; format!(in alloc; "{violation}")?.as_str(), words);
+        let fault = CheckFault::Violated(violation);
+        assert_eq!(rt; format!(in alloc; "{fault}")?.as_str(), words);
     }
     for (kind, words) in [
-        (PlanKind::NotHeader, "not a header"),
-        (PlanKind::TooFewFields, "too few fields"),
-        (PlanKind::NotANumber, "not a number"),
-        (PlanKind::NumberTooLarge, "number too large"),
-        (PlanKind::Memory, "out of memory"),
+        (PlanKind::NotHeader, "not a header in record 3"),
+        (PlanKind::TooFewFields, "too few fields in record 3"),
+        (PlanKind::NotANumber, "not a number in record 3"),
+        (PlanKind::NumberTooLarge, "number too large in record 3"),
+        (PlanKind::Memory, "out of memory in record 3"),
     ] {
-        assert_eq!(rt; format!(in alloc; "{kind}")?.as_str(), words);
+        let fault = PlanFault { kind, row: 3 };
+        assert_eq!(rt; format!(in alloc; "{fault}")?.as_str(), words);
     }
     Ok(())
 }

@@ -6,9 +6,9 @@ ghost use Rattle.schedule_check.specs.Violation.{first_time_violation, first_vio
 ghost use Rattle.schedule_check.specs.Checking.{Answers};
 
 use crate::check_fault::CheckFault;
-use crate::early::first_early;
+use crate::early_starts::first_early;
 use crate::naming::schedule_of;
-use crate::over::first_over;
+use crate::over_capacity::first_over;
 use crate::plan::Plan;
 use rc_instance::{Instance, Schedule};
 use std::alloc::Global;

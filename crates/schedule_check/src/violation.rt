@@ -1,3 +1,4 @@
+use std::error::Error;
 use std::fmt;
 
 /// What keeps a plan from being a feasible schedule. Activities and resources are numbered from 1.
@@ -69,3 +70,5 @@ impl fmt::Display for Violation {
         }
     }
 }
+
+impl Error for Violation {}

@@ -5,7 +5,7 @@ use serial_plain::{serial, serial_on};
 use std::alloc::Global;
 
 /// So many serial schedules on one line.
-pub(crate) fn on_line(alloc: Global, list: &FeasibleList<'_>, rounds: u32) -> Option<()> {
+pub(crate) fn on_line(alloc: Global, list: &FeasibleList<'_>, rounds: u32) -> Option<u64> {
     let instance = list.net().instance();
     if let Err(_) = instance.fits_all() {
         return None;
@@ -20,13 +20,13 @@ pub(crate) fn on_line(alloc: Global, list: &FeasibleList<'_>, rounds: u32) -> Op
         line.clear();
         serial_on(list, &mut line, &mut schedule);
     }
-    Some(())
+    Some(u64::from(rounds))
 }
 
-/// So many serial schedules, each on a table of its own.
-pub(crate) fn on_table(alloc: Global, list: &FeasibleList<'_>, rounds: u32) -> Option<()> {
+/// So many serial schedules, each on a line of its own.
+pub(crate) fn on_fresh_lines(alloc: Global, list: &FeasibleList<'_>, rounds: u32) -> Option<u64> {
     for _ in 0..rounds {
         serial(alloc, list).ok()?;
     }
-    Some(())
+    Some(u64::from(rounds))
 }

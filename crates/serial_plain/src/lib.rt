@@ -1,12 +1,12 @@
-//! The serial schedule generation scheme (Kolisch 1996), on a table of periods and on a line.
+//! The serial schedule generation scheme (Kolisch 1996), on a line of bookings.
 //!
-//! [`serial`] books each activity of a feasible list in turn, at its least start, in a table of
-//! what is free of each resource in each period. Its answer is the `serial_schedule` of the
-//! definitions, which is feasible and ends by the horizon, or the first misfit of the instance.
-//! [`serial_on`] writes the same schedule, of an instance without a misfit, by bookings on a
-//! [`Line`](event_line::Line): its cost does not grow with the number of periods, and it takes no
-//! memory. [`serial_step`] is one step of it, so that a list with another end can be scheduled from
-//! where it differs. The crate stands on `rc_instance`, `activity_net` and `event_line`. One caller:
+//! [`serial`] books each activity of a feasible list in turn, at its least start. Its answer is the
+//! `serial_schedule` of the definitions, which is feasible and ends by the horizon, or the first
+//! misfit of the instance. [`serial_on`] writes the same schedule, of an instance without a misfit,
+//! by bookings on an empty [`Line`](event_line::Line), so that one line serves for many lists: it
+//! takes no memory. [`serial_step`] is one step of it, so that a list with another end can be
+//! scheduled from where it differs. The crate stands on `rc_instance`, `activity_net` and
+//! `event_line`. One caller:
 //!
 //! ```text
 //! let net = Net::of(alloc, instance)?;
@@ -25,7 +25,6 @@ mod on;
 #[cfg(test)]
 mod on_tests;
 mod scheme;
-mod table;
 #[cfg(test)]
 mod tests;
 

@@ -2,7 +2,7 @@ ghost use Rattle.std.specs.Prelude.{◌≡◌, ◌≤◌, length, IfOk};
 ghost use Rattle.rc_instance.specs.Project.{IsResource, activity_count};
 
 use super::*;
-use crate::tests::{SIX, drawn, generated, instance_of, with_pause};
+use crate::tests::{SIX, instance_of, with_pause};
 use activity_net::{FeasibleList, Net};
 use event_line::Line;
 use rc_instance::{Change, Instance, Memory, Schedule};
@@ -10,12 +10,16 @@ use std::alloc::Global;
 use std::test::*;
 
 // The net of an instance without a cycle.
-fn net_of(alloc: Global, instance: Instance) -> Result<Net, Fail> {
+pub(crate) fn net_of(alloc: Global, instance: Instance) -> Result<Net, Fail> {
     Ok(Net::of(alloc, instance).ok().ok_or("no cycle")?)
 }
 
 // The list of an order that is feasible.
-fn list_of<'n>(alloc: Global, net: &'n Net, order: &[u32]) -> Result<FeasibleList<'n>, Fail> {
+pub(crate) fn list_of<'n>(
+    alloc: Global,
+    net: &'n Net,
+    order: &[u32],
+) -> Result<FeasibleList<'n>, Fail> {
     Ok(
         FeasibleList::of(alloc, net, order)
             .ok()
@@ -36,7 +40,7 @@ fn scheduled(alloc: Global, list: &FeasibleList<'_>) -> Result<Schedule, Fail>
 }
 
 // Whether a schedule has these starts.
-fn has_starts(list: &FeasibleList<'_>, schedule: &Schedule, starts: &[u32]) -> bool
+pub(crate) fn has_starts(list: &FeasibleList<'_>, schedule: &Schedule, starts: &[u32]) -> bool
     requires { length schedule.now ≡ activity_count list.now.network.project }
 {
     let mut same = starts.len() == schedule.count();
@@ -92,51 +96,6 @@ fn starts_on_a_line_are_the_worked_ones(rt: HostRuntime) -> Result<(), Fail> {
     Ok(())
 }
 
-// Whether two schedules have the same starts.
-fn are_equal(list: &FeasibleList<'_>, one: &Schedule, other: &Schedule) -> bool
-    requires one { length one.now ≡ activity_count list.now.network.project }
-    requires other { length other.now ≡ activity_count list.now.network.project }
-{
-    for activity in 1..list.net().instance().count() + 1 {
-        if one.start(activity) != other.start(activity) {
-            return false;
-        }
-    }
-    true
-}
-
-// Whether the scheme gives an order the same starts on a line and on a table.
-fn agrees(alloc: Global, net: &Net, order: &[u32]) -> Result<bool, Fail> {
-    let list = list_of(alloc, net, order)?;
-    let on_line = scheduled(alloc, &list)?;
-    let on_table = serial(alloc, &list)?;
-    Ok(are_equal(&list, &on_line, &on_table))
-}
-
-#[test]
-fn the_line_and_the_table_give_the_same_starts(rt: HostRuntime) -> Result<(), Fail> {
-    let alloc = rt.alloc();
-    let mut seed = 7;
-    for round in 0..20 {
-        let numbers = generated(alloc, &mut seed)?;
-        let mut instance = instance_of(alloc, &numbers)?;
-        if round % 2 == 1 {
-            assert!(rt; instance.resources() > 0);
-            instance = with_pause(alloc, instance, 4)?;
-        }
-        let net = net_of(alloc, instance)?;
-        let mut order = [1, 2, 3, 4, 5, 6, 7, 8];
-        for place in 0..7 {
-            order.swap(place, place + 1);
-            if FeasibleList::of(alloc, &net, &order).is_err() {
-                order.swap(place, place + 1);
-            }
-            assert!(rt; agrees(alloc, &net, &order)?, "in round {round}");
-        }
-    }
-    Ok(())
-}
-
 // Whether the last step, taken back and done again, gives the same start.
 fn repeats(alloc: Global, list: &FeasibleList<'_>) -> Result<bool, Fail> {
     let instance = list.net().instance();
@@ -148,8 +107,8 @@ fn repeats(alloc: Global, list: &FeasibleList<'_>) -> Result<bool, Fail> {
     let last = list.order()[position as usize];
     let start = schedule.start(last);
     line.undo();
-    serial_step(list, &mut line, &mut schedule, position);
-    Ok(schedule.start(last) == start && line.count() == instance.count())
+    let answer = serial_step(list, &mut line, &mut schedule, position);
+    Ok(answer == start && schedule.start(last) == start && line.count() == instance.count())
 }
 
 #[test]

@@ -4,7 +4,8 @@ ghost use Rattle.rc_instance.specs.Project.{IsActivity, IsResource, Precedes, ac
 ghost use Rattle.rc_instance.specs.Order.{IsFeasibleList};
 
 use super::*;
-use crate::scheme::in_order;
+use crate::on_tests::{has_starts, list_of, net_of};
+use activity_net::Net;
 use rc_instance::{Change, Instance, Memory, Misfit, Parts};
 use std::alloc::Global;
 use std::test::*;
@@ -210,17 +211,10 @@ fn start_all(instance: &Instance, order: &[u32], starts: &mut [Option<u32>])
 }
 
 // Whether the scheme gives an order these starts.
-fn gives(alloc: Global, instance: &Instance, order: &[u32], starts: &[u32]) -> Result<bool, Fail> {
-    if !is_feasible_list(instance, order) {
-        return Err(Fail::from("the order is feasible"));
-    }
-    let schedule = in_order(alloc, instance, order)?;
-    let mut same = starts.len() == schedule.count();
-    for activity in 1..instance.count() + 1 {
-        let start = starts.get(activity as usize - 1).copied();
-        same = same && start == Some(schedule.start(activity));
-    }
-    Ok(same)
+fn gives(alloc: Global, net: &Net, order: &[u32], starts: &[u32]) -> Result<bool, Fail> {
+    let list = list_of(alloc, net, order)?;
+    let schedule = serial(alloc, &list)?;
+    Ok(has_starts(&list, &schedule, starts))
 }
 
 pub(crate) const SIX: [u32; 28] = [
@@ -233,41 +227,51 @@ pub(crate) const SIX: [u32; 28] = [
     0, 0, 0,
 ];
 
+// Whether the scheme gives an order of an instance in numbers these starts.
+fn given(alloc: Global, numbers: &[u32], order: &[u32], starts: &[u32]) -> Result<bool, Fail> {
+    let net = net_of(alloc, instance_of(alloc, numbers)?)?;
+    gives(alloc, &net, order, starts)
+}
+
+// The net of an instance in numbers, with the pause if it is to have one.
+fn net_with(alloc: Global, numbers: &[u32], is_paused: bool, capacity: u32) -> Result<Net, Fail>
+    requires { capacity ≤ 10 }
+{
+    let instance = instance_of(alloc, numbers)?;
+    if !is_paused {
+        return net_of(alloc, instance);
+    }
+    if instance.resources() == 0 {
+        return Err(Fail::from("there is a resource"));
+    }
+    net_of(alloc, with_pause(alloc, instance, capacity)?)
+}
+
 #[test]
 fn starts_are_the_worked_ones(rt: HostRuntime) -> Result<(), Fail> {
     let alloc = rt.alloc();
-    let six = instance_of(alloc, &SIX)?;
     let by_number = [1, 2, 3, 4, 5, 6];
-    assert!(rt; gives(alloc, &six, &by_number, &[0, 0, 3, 3, 5, 6])?);
+    assert!(rt; given(alloc, &SIX, &by_number, &[0, 0, 3, 3, 5, 6])?);
     assert!(rt;
-        gives(alloc, &six, &[1, 3, 2, 4, 5, 6], &[0, 2, 0, 0, 5, 6])?,
+        given(alloc, &SIX, &[1, 3, 2, 4, 5, 6], &[0, 2, 0, 0, 5, 6])?,
         "fills a gap"
     );
-    assert!(rt; six.resources() == 1);
-    let paused = with_pause(alloc, six, 2)?;
+    let paused = net_with(alloc, &SIX, true, 2)?;
     assert!(rt;
         gives(alloc, &paused, &by_number, &[0, 3, 6, 6, 8, 9])?,
         "waits for the pause"
     );
-    for (numbers, starts) in [
-        ([2, 1, 3, 2, 1, 0, 1, 2, 0].as_slice(), [0, 0].as_slice()),
-        (&[2, 1, 2, 2, 1, 0, 1, 2, 0], &[0, 2]),
-        (&[1, 1, 2, 0, 5, 0], &[0]),
-    ] {
-        let instance = instance_of(alloc, numbers)?;
-        assert!(rt; gives(alloc, &instance, &by_number[..starts.len()], starts)?);
-    }
+    assert!(rt; given(alloc, &[2, 1, 3, 2, 1, 0, 1, 2, 0], &[1, 2], &[0, 0])?);
+    assert!(rt; given(alloc, &[2, 1, 2, 2, 1, 0, 1, 2, 0], &[1, 2], &[0, 2])?);
+    assert!(rt; given(alloc, &[1, 1, 2, 0, 5, 0], &[1], &[0])?);
     Ok(())
 }
 
 #[test]
 fn a_misfit_is_told(rt: HostRuntime) -> Result<(), Fail> {
     let alloc = rt.alloc();
-    let instance = instance_of(alloc, &[1, 1, 2, 1, 5, 0])?;
-    let order = [1];
-    if !is_feasible_list(&instance, &order) {
-        return Err(Fail::from("the order is feasible"));
-    }
+    let net = net_of(alloc, instance_of(alloc, &[1, 1, 2, 1, 5, 0])?)?;
+    let list = list_of(alloc, &net, &[1])?;
     let misfit = Misfit {
         activity: 1,
         resource: 1,
@@ -275,14 +279,14 @@ fn a_misfit_is_told(rt: HostRuntime) -> Result<(), Fail> {
         capacity: 2,
     };
     assert_eq!(rt;
-        in_order(alloc, &instance, &order).err(),
+        serial(alloc, &list).err(),
         Some(SerialFault::Misfit(misfit))
     );
     Ok(())
 }
 
 // The next number below a bound, of a sequence that goes on from the seed.
-pub(crate) fn drawn(seed: &mut u32, bound: u32) -> u32
+fn drawn(seed: &mut u32, bound: u32) -> u32
     requires { 0 < bound }
     ensures { result < bound }
 {
@@ -290,11 +294,14 @@ pub(crate) fn drawn(seed: &mut u32, bound: u32) -> u32
     (*seed >> 16) % bound
 }
 
-// Eight activities and two resources, in numbers as `instance_of` reads them.
-pub(crate) fn generated(alloc: Global, seed: &mut u32) -> Result<Vec<u32>, Memory> {
+// Eight activities and two resources, in numbers as `instance_of` reads them, with durations that
+// are so many times those of one period to three.
+fn generated(alloc: Global, seed: &mut u32, times: u32) -> Result<Vec<u32>, Memory>
+    requires { times ≤ 100 }
+{
     let mut numbers = vec![in alloc; 8, 2, drawn(seed, 3) + 2, drawn(seed, 3) + 2]?;
     for activity in 1..9 {
-        numbers.push(drawn(seed, 4))?;
+        numbers.push(drawn(seed, 4) * times)?;
         numbers.push(drawn(seed, 3))?;
         numbers.push(drawn(seed, 3))?;
         let first = activity + 1 + drawn(seed, 2);
@@ -308,7 +315,8 @@ pub(crate) fn generated(alloc: Global, seed: &mut u32) -> Result<Vec<u32>, Memor
 }
 
 // Whether the scheme gives an order the starts of the plain program.
-fn agrees(alloc: Global, instance: &Instance, order: &[u32]) -> Result<bool, Fail> {
+fn agrees(alloc: Global, net: &Net, order: &[u32]) -> Result<bool, Fail> {
+    let instance = net.instance();
     let mut starts = vec![in alloc; None; instance.count() as usize]?;
     if !is_feasible_list(instance, order) {
         return Err(Fail::from("the order is feasible"));
@@ -318,27 +326,37 @@ fn agrees(alloc: Global, instance: &Instance, order: &[u32]) -> Result<bool, Fai
         .iter()
         .map(|start| start.unwrap_or(0))
         .collect(alloc)?;
-    gives(alloc, instance, order, &starts)
+    gives(alloc, net, order, &starts)
 }
 
+// Whether the scheme gives orders of eight activities the starts of the plain program.
+fn agrees_in_all(alloc: Global, net: &Net) -> Result<bool, Fail> {
+    let mut order = [1, 2, 3, 4, 5, 6, 7, 8];
+    for place in 0..7 {
+        order.swap(place, place + 1);
+        if !is_feasible_list(net.instance(), &order) {
+            order.swap(place, place + 1);
+        }
+        if !agrees(alloc, net, &order)? {
+            return Ok(false);
+        }
+    }
+    Ok(true)
+}
+
+// Short durations, so that the line has a node for each period, and long ones.
 #[test]
 fn a_plain_program_gives_the_same_starts(rt: HostRuntime) -> Result<(), Fail> {
     let alloc = rt.alloc();
     let mut seed = 1;
-    for round in 0..30 {
-        let numbers = generated(alloc, &mut seed)?;
-        let mut instance = instance_of(alloc, &numbers)?;
-        if round % 2 == 1 {
-            assert!(rt; instance.resources() > 0);
-            instance = with_pause(alloc, instance, 4)?;
-        }
-        let mut order = [1, 2, 3, 4, 5, 6, 7, 8];
-        for place in 0..7 {
-            order.swap(place, place + 1);
-            if !is_feasible_list(&instance, &order) {
-                order.swap(place, place + 1);
-            }
-            assert!(rt; agrees(alloc, &instance, &order)?, "in round {round}");
+    for (rounds, times) in [(30, 1), (4, 30)] {
+        for round in 0..rounds {
+            let numbers = generated(alloc, &mut seed, times)?;
+            let net = net_with(alloc, &numbers, round % 2 == 1, 4)?;
+            assert!(rt;
+                agrees_in_all(alloc, &net)?,
+                "in round {round} times {times}"
+            );
         }
     }
     Ok(())

@@ -31,12 +31,6 @@ earliest-tail-le project a e t c earliest tail critical =
           (IsChain-join project before.0 a after.0 before.1 after.1),
     )
 
--- a tail is at most the critical length
-pub tail-le : (project : Project) (a t c : ℕ) → IsTail project a t → IsCritical project c → t ≤ c
-tail-le project a t c tail critical =
-    let after = tail.reached in
-    omega (arith, after.2, critical.longest (a ∷ after.0) after.1)
-
 -- where there is a feasible list, no window exceeds the sum of all durations
 pub critical-le : (project : Project) (order : List ℕ) (c : ℕ) → IsFeasibleList project order
     → IsCritical project c → c ≤ duration_sum project

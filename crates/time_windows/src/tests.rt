@@ -70,6 +70,10 @@ fn rows(alloc: Global, windows: &Windows) -> Result<Vec<(u32, u32, u32)>, Memory
     Ok(rows)
 }
 
+fn is_send<T: Send>(_: &T) {}
+
+fn is_sync<T: Sync>(_: &T) {}
+
 #[test]
 fn windows_are_the_worked_ones(rt: HostRuntime) -> Result<(), Fail> {
     let alloc = rt.alloc();
@@ -86,6 +90,8 @@ fn windows_are_the_worked_ones(rt: HostRuntime) -> Result<(), Fail> {
     assert_eq!(rt; rows(alloc, &windows)?.as_slice(), expected.as_slice());
     assert_eq!(rt; windows.critical(), 4);
     assert_eq!(rt; windows.capacity_bound(), 6);
+    is_send(&windows);
+    is_sync(&windows);
     Ok(())
 }
 

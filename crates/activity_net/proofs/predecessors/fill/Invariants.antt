@@ -7,4 +7,5 @@ use Rattle.activity_net.proofs.predecessors.fill.Given as goal
 
 abbrev pub invariant-loop-activity : goal.invariant-loop-activity
 invariant-loop-activity l =
-    lists_in l.lists ≡ map (predecessors_up_to l.instance (l.activity - 1)) (numbers (activity_count l.instance))
+    lists_in l.lists ≡ map (predecessors_up_to l.instance (l.activity - 1))
+    (numbers (activity_count l.instance))

@@ -6,4 +6,5 @@ use Rattle.activity_net.proofs.reach.fill.Given as goal
 abbrev pub invariant-loop-after : goal.invariant-loop-after
 invariant-loop-after l =
     (place : ℕ) → length l.order ≤ place + l.after → place < length l.order
-    → HoldsFollowers l.instance (get_or l.order place 0) (set_of (lists_in l.sets) (get_or l.order place 0))
+    → HoldsFollowers l.instance (get_or l.order place 0)
+    (set_of (lists_in l.sets) (get_or l.order place 0))

@@ -8,10 +8,13 @@ pub returns-in-Some : goal.returns-in-Some
 unfolding from_least
 returns-in-Some c =
     let ring = c.args.ring.now in
-    let found = ap (λ (n : ℕ). position (λ a. nat_eq a n) ring) (sym c.least-least.ensures) ∙ sym c.in-Some.ensures in
-    c.rotate_left.ensures.after ∙ ap (λ (k : ℕ). drop k ring ++ take k ring) (place-some _ ring c.in-Some.place found)
+    let found = ap (λ (n : ℕ). position (λ a. nat_eq a n) ring) (sym c.least-least.ensures)
+    ∙ sym c.in-Some.ensures in
+    c.rotate_left.ensures.after ∙ ap (λ (k : ℕ). drop k ring ++ take k ring)
+    (place-some _ ring c.in-Some.place found)
 
 pub returns-in_default : goal.returns-in_default
 returns-in_default c =
     let ring = c.args.ring.now in
-    sym (from_least-none ring (ap (λ (n : ℕ). position (λ a. nat_eq a n) ring) (sym c.least-least.ensures) ∙ sym c.in_default.ensures))
+    sym (from_least-none ring (ap (λ (n : ℕ). position (λ a. nat_eq a n) ring)
+    (sym c.least-least.ensures) ∙ sym c.in_default.ensures))

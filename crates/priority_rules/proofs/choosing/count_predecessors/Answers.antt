@@ -1,27 +1,35 @@
 use Rattle.std.proofs.Common.{arith, ap}
 use Rattle.rc_instance.specs.Project.{activity_count}
-use Rattle.priority_rules.proofs.CountingLaws.{counted_none, counted_waits, counted_frees, counted_all}
+use Rattle.priority_rules.proofs.CountingLaws.{counted_none, counted_waits, counted_frees, counted_numbers, counted_all}
 use Rattle.priority_rules.proofs.choosing.count_predecessors.Goals as goal
 use Rattle.priority_rules.proofs.choosing.count_predecessors.Goals.{then-count-eq0, else-count-eq0}
 
 pub loop-activity-init : goal.loop-activity-init
-loop-activity-init c = counted_none _ _ _
+loop-activity-init c = counted_none _ _ _ _
+
+pub add-requires-clause-numbers : goal.add-requires-clause-numbers
+add-requires-clause-numbers c =
+    let count = ap activity_count c.instance.ensures.value in
+    counted_numbers c.args.net.now.project c.args.keys.now c.loop-activity.waiting
+    c.loop-activity.pile c.loop-activity.activity c.loop-activity.free c.loop-activity.invariant
+    (omega arith)
 
 pub loop-activity-preserved : goal.loop-activity-preserved
 loop-activity-preserved c =
+    let l = c.loop-activity in
     let count = ap activity_count c.instance.ensures.value in
     elim c.if-count-eq0.branch [
-      | then-count-eq0 w ↦ rw (w.order-is, w.free-is)
-          (counted_frees c.args.net.now.project c.loop-activity.waiting c.loop-activity.order
-          c.loop-activity.activity c.loop-activity.free _ c.loop-activity.invariant
-          (omega arith) (omega arith) (omega arith) c.predecessor_count-count.ensures (omega arith))
-      | else-count-eq0 w ↦ rw (w.order-is, w.free-is)
-          (counted_waits c.args.net.now.project c.loop-activity.waiting c.loop-activity.order
-          c.loop-activity.activity c.loop-activity.free _ c.loop-activity.invariant
-          (omega arith) (omega arith) c.predecessor_count-count.ensures (omega arith))
+      | then-count-eq0 w ↦ rw (w.pile-is, w.free-is)
+          (counted_frees c.args.net.now.project c.args.keys.now l.waiting l.pile w.add.new.pile
+          l.activity l.free _ l.invariant (omega arith) (omega arith)
+          c.predecessor_count-count.ensures (omega arith) w.add.ensures.added
+          w.add.ensures.falling)
+      | else-count-eq0 w ↦ rw (w.pile-is, w.free-is)
+          (counted_waits c.args.net.now.project c.args.keys.now l.waiting l.pile l.activity l.free _
+          l.invariant (omega arith) (omega arith) c.predecessor_count-count.ensures (omega arith))
     ]
 
 pub returns-clause-waiting : goal.returns-clause-waiting
 returns-clause-waiting c =
     let count = ap activity_count c.instance.ensures.value in
-    counted_all _ _ _ _ _ c.loop-activity.invariant (omega arith)
+    counted_all _ _ _ _ _ _ c.loop-activity.invariant (omega arith)

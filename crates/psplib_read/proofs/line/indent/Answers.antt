@@ -6,5 +6,6 @@ use Rattle.psplib_read.proofs.line.indent.Goals as goal
 
 pub returns-clause-count : goal.returns-clause-count
 returns-clause-count c =
-    c.unwrap_or.ensures ∙ ap (λ first. unwrap_or first (length c.args.text.now)) c.first_black.ensures
+    c.unwrap_or.ensures ∙ ap (λ first. unwrap_or first (length c.args.text.now))
+    c.first_black.ensures
     ∙ position-unwrap_or (λ byte. not (is_white byte)) c.args.text.now

@@ -1,45 +1,46 @@
-use Rattle.std.proofs.Common.{◌≡◌, Ok, ap, sym, ◌∙◌}
-use Rattle.std.proofs.lemmas.Result.{err_from_is_err_and}
-use Rattle.rc_instance.specs.declared.parts.InstanceFault.TheVariants.{Memory}
-use Rattle.rc_edge.proofs.PartsLaws.{only_memory}
+use Rattle.std.proofs.Common.{inr}
+use Rattle.std.proofs.lemmas.Result.{err_from_is_err_and, IfErr-weaker}
 use Rattle.psplib_read.proofs.KindLaws.{kind_is}
 use Rattle.psplib_read.proofs.TextLaws.{text_is}
-use Rattle.psplib_read.proofs.PartsLaws.{parts_fit, demands_fit, successors_fit, parts_made, text_accepted, text_refused}
+use Rattle.psplib_read.proofs.PartsLaws.{parts_fit, demands_fit, successors_fit, instance_read, refused_for_memory, text_refused}
 use Rattle.psplib_read.proofs.read.read_sm.Goals as goal
-use Rattle.psplib_read.proofs.read.read_sm.Goals.{in-Memory, in_default}
 
 pub returns-in_err-parts-clause-reads : goal.returns-in_err-parts-clause-reads
 returns-in_err-parts-clause-reads c =
     let passed = err_from_is_err_and c.from_residual.result c.from_residual.ensures.1 in
-    rw (passed.1, passed.2) (text_refused c.args.bytes.now c.in_err-parts.field-0.0 c.in_err-parts.ensures)
+    let refused = c.in_err-parts.ensures in
+    rw (passed.1, passed.2) (text_refused c.args.bytes.now c.in_err-parts.field-0.0 refused)
 
 pub returns-in_err-parts-clause-kinds : goal.returns-in_err-parts-clause-kinds
 returns-in_err-parts-clause-kinds c =
     let passed = err_from_is_err_and c.from_residual.result c.from_residual.ensures.1 in
     let fault = c.in_err-parts.field-0.0 in
-    rw (passed.1, passed.2) (kind_is c.args.bytes.now fault (text_refused c.args.bytes.now fault c.in_err-parts.ensures))
+    let refused = c.in_err-parts.ensures in
+    rw (passed.1, passed.2)
+    (kind_is c.args.bytes.now fault (text_refused c.args.bytes.now fault refused))
 
-pub build-requires-clause-successors : goal.build-requires-clause-successors
-build-requires-clause-successors c =
+pub built-requires-clause-successors : goal.built-requires-clause-successors
+built-requires-clause-successors c =
     let text = c.in_ok-parts.ensures in
     successors_fit text.0 c.in_ok-parts.parts text.2 (text_is _ text.0 text.1)
 
-pub build-requires-clause-demands : goal.build-requires-clause-demands
-build-requires-clause-demands c =
+pub built-requires-clause-demands : goal.built-requires-clause-demands
+built-requires-clause-demands c =
     let text = c.in_ok-parts.ensures in
     demands_fit text.0 c.in_ok-parts.parts text.2 (text_is _ text.0 text.1)
 
-pub prove-unreachable-requires : goal.prove-unreachable-requires
-prove-unreachable-requires c =
+pub built-requires-clause-fits : goal.built-requires-clause-fits
+built-requires-clause-fits c =
     let text = c.in_ok-parts.ensures in
-    let none = parts_fit text.0 c.in_ok-parts.parts text.2 (text_is _ text.0 text.1) in
-    let memory : c.in-Err.fault ≡ Memory = only_memory _ c.in-Err.fault none c.in-Err.ensures.refused in
-    elim c.match-matches.branch [
-      | in-Memory w ↦ cc (w.matches-is, c.if-prove.true)
-      | in_default w ↦ w.in_default.not-Memory memory
-    ]
+    parts_fit text.0 c.in_ok-parts.parts text.2 (text_is _ text.0 text.1)
 
-pub returns-in-Ok-clause-reads : goal.returns-in-Ok-clause-reads
-returns-in-Ok-clause-reads c =
+pub returns-clause-reads : goal.returns-clause-reads
+returns-clause-reads c =
     let text = c.in_ok-parts.ensures in
-    text_accepted c.args.bytes.now text.0 text.1 ∙ ap Ok (sym (c.in-Ok.ensures.made ∙ parts_made text.0 c.in_ok-parts.parts text.2))
+    let read = text.1 in
+    instance_read _ c.args.bytes.now text.0 c.in_ok-parts.parts _ read text.2 c.built.ensures
+
+pub returns-clause-kinds : goal.returns-clause-kinds
+returns-clause-kinds c =
+    IfErr-weaker _ _ _ (λ fault memory. kind_is c.args.bytes.now fault (inr memory))
+    (refused_for_memory _ c.in_ok-parts.parts _ c.built.ensures)

@@ -10,19 +10,30 @@ returns-then-not-is_silent-clause-first c =
     let bytes = c.loop-rest.rest.now in
     let at = c.loop-rest.at in
     let line : Line = record { text = c.split_line.result.0.now; at = at } in
-    let line_is : line ≡ line_at at bytes = ap (λ (text : List ℕ). record { text = text; at = at }) c.split_line.ensures.text in
-    let some : 0 < length bytes = omega (arith, eqb-false _ _ (sym c.is_empty.ensures ∙ c.loop-rest-test.true)) in
-    line_found at bytes c.split_line.result.1.now line _ some c.split_line.ensures.rest line_is (sym c.is_silent.ensures ∙ c.if-not-is_silent.true) c.loop-rest.invariant.0
+    let line_is : line ≡ line_at at bytes = ap (λ (text : List ℕ). record { text = text; at = at })
+    c.split_line.ensures.text in
+    let some : 0 < length bytes = omega
+    (arith, eqb-false _ _ (sym c.is_empty.ensures ∙ c.loop-rest-test.true)) in
+    line_found at bytes c.split_line.result.1.now line _ some c.split_line.ensures.rest line_is
+    (sym c.is_silent.ensures ∙ c.if-not-is_silent.true) c.loop-rest.invariant.0
 
 pub loop-rest-preserved : goal.loop-rest-preserved
 loop-rest-preserved c =
     let bytes = c.loop-rest.rest.now in
     let at = c.loop-rest.at in
     let line : Line = record { text = c.split_line.result.0.now; at = at } in
-    let line_is : line ≡ line_at at bytes = ap (λ (text : List ℕ). record { text = text; at = at }) c.split_line.ensures.text in
-    let some : 0 < length bytes = omega (arith, eqb-false _ _ (sym c.is_empty.ensures ∙ c.loop-rest-test.true)) in (
-      line_passed at bytes c.split_line.result.1.now line _ some c.split_line.ensures.rest line_is (sym c.is_silent.ensures ∙ c.if-not-is_silent.false) c.loop-rest.invariant.0,
-      omega (arith, ap length c.split_line.ensures.rest, length-drop (line_len bytes + 1) bytes, some),
+    let line_is : line ≡ line_at at bytes = ap (λ (text : List ℕ). record { text = text; at = at })
+    c.split_line.ensures.text in
+    let some : 0 < length bytes = omega
+    (arith, eqb-false _ _ (sym c.is_empty.ensures ∙ c.loop-rest-test.true)) in (
+      line_passed at bytes c.split_line.result.1.now line _ some c.split_line.ensures.rest line_is
+          (sym c.is_silent.ensures ∙ c.if-not-is_silent.false) c.loop-rest.invariant.0,
+      omega (
+        arith,
+        ap length c.split_line.ensures.rest,
+        length-drop (line_len bytes + 1) bytes,
+        some,
+      ),
     )
 
 pub returns-clause-none : goal.returns-clause-none

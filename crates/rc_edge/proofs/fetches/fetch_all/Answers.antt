@@ -1,5 +1,7 @@
-use Rattle.std.proofs.Common.{arith, ◌∙◌, ℕ, ◌≤◌, List, length, Vec, Global, Bor}
+use Rattle.std.proofs.Common.{arith, ◌∙◌, ap, sym, ℕ, ◌≤◌, List, length, Vec, Global, Bor}
+use Rattle.rc_edge.specs.Faults.{one_more}
 use Rattle.rc_edge.specs.Files.{SameCounts}
+use Rattle.rc_edge.proofs.CountLaws.{counted_on-more, counted_on-le}
 use Rattle.rc_edge.specs.Fetches.{HasReason}
 use Rattle.std.proofs.lemmas.List.Elements.{All-push}
 use Rattle.rc_edge.proofs.FetchLaws.{IsSomeAnd-slice_get, IsSomeAnd-all, Counts-reason}
@@ -43,6 +45,7 @@ loop-place-preserved g c =
     record {
       told = fetched.told ∙ before.told;
       failing = fetched.failing ∙ before.failing;
+      fetches = fetched.fetches ∙ ap one_more before.fetches ∙ sym (counted_on-more _ c.loop-place.place);
       faults = λ n. stand.0 n ∙ before.faults n;
       long = λ n. stand.1 n ∙ before.long n;
       count = omega (arith, pushed.len, before.count);
@@ -51,4 +54,26 @@ loop-place-preserved g c =
           before.texts fetched.bytes;
       within = AreWithin-more _ _ _ _ _ _ text before.told inside fetched.length
           before.within fetched.bytes;
+    }
+
+pub returns-in-Err-clause-fetches : goal.returns-in-Err-clause-fetches
+returns-in-Err-clause-fetches g c =
+    let before = g.F.Files.fetches c.args.files.now in
+    let made = c.fetch_one.ensures.fetches ∙ ap one_more c.loop-place.invariant.fetches
+    ∙ sym (counted_on-more before c.loop-place.place) in
+    record {
+      most = omega (arith, made, counted_on-le before c.loop-place.place _ c.loop-place-test.true);
+      all = tt;
+      up_to = made;
+    }
+
+pub returns-in-Err-push-clause-fetches : goal.returns-in-Err-push-clause-fetches
+returns-in-Err-push-clause-fetches g c =
+    let before = g.F.Files.fetches c.args.files.now in
+    let made = c.fetch_one.ensures.fetches ∙ ap one_more c.loop-place.invariant.fetches
+    ∙ sym (counted_on-more before c.loop-place.place) in
+    record {
+      most = omega (arith, made, counted_on-le before c.loop-place.place _ c.loop-place-test.true);
+      all = tt;
+      up_to = made;
     }

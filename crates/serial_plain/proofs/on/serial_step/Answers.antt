@@ -1,4 +1,4 @@
-use Rattle.std.proofs.Common.{◌≡◌, refl}
+use Rattle.std.proofs.Common.{◌≡◌, refl, rules}
 use Rattle.rc_instance.specs.Serial.{serial_start}
 use Rattle.rc_instance.proofs.SerialLaws.{serial_more}
 use Rattle.serial_plain.proofs.ShownLaws.{booked_others}
@@ -18,30 +18,29 @@ last_of-last-requires-clause-ended c =
     c.args.into.now (rw c.net-net.ensures.value at c.instance.ensures.limits)
     c.net-net.ensures.feasible c.requires.position (rw c.requires.before at c.requires.shown))
 
-pub place_near-start-requires-clause-unbooked : goal.place_near-start-requires-clause-unbooked
-place_near-start-requires-clause-unbooked c =
-    let others = booked_others c.args.list.now.network.project c.args.list.now.order c.args.position
-    c.net-net.ensures.feasible c.requires.position in
-    rw (c.requires.before, c.order.ensures.value) (λ i d inside. (others i d inside).1)
-
-pub place_near-start-requires-clause-from : goal.place_near-start-requires-clause-from
-place_near-start-requires-clause-from c =
-    rw (
-      c.last_of-last.ensures,
-      c.predecessors.ensures.value,
-      c.instance.ensures.value,
-      c.net-net.ensures.value,
-      c.order.ensures.value,
-    )
-    (next_within c.args.list.now.network.project c.args.list.now.order c.args.position
-    c.args.into.now (rw c.net-net.ensures.value at c.instance.ensures.limits)
-    c.net-net.ensures.feasible c.requires.position (rw c.requires.before at c.requires.shown))
-
-pub place_near-start-requires-clause-ended : goal.place_near-start-requires-clause-ended
-place_near-start-requires-clause-ended c =
-    rw (c.requires.before, c.requires.project)
-    (booked_within c.args.list.now.network.project c.args.list.now.order c.args.position
-    (rw c.net-net.ensures.value at c.instance.ensures.limits) c.net-net.ensures.feasible)
+pub place_near-start-requires : goal.place_near-start-requires
+place_near-start-requires c =
+    let project = c.args.list.now.network.project in
+    let order = c.args.list.now.order in
+    let list = c.net-net.ensures.feasible in
+    let limits = rw c.net-net.ensures.value at c.instance.ensures.limits in
+    let others = booked_others project order c.args.position list c.requires.position in
+    record {
+      activity = search rules;
+      unbooked = rw (c.requires.before, c.order.ensures.value) (λ i d inside. (others i d inside).1);
+      fits = search rules;
+      from = rw (
+        c.last_of-last.ensures,
+        c.predecessors.ensures.value,
+        c.instance.ensures.value,
+        c.net-net.ensures.value,
+        c.order.ensures.value,
+      )
+          (next_within project order c.args.position c.args.into.now limits list c.requires.position
+          (rw c.requires.before at c.requires.shown));
+      ended = rw (c.requires.before, c.requires.project)
+          (booked_within project order c.args.position limits list);
+    }
 
 -- the start that the line gives is that of the scheme
 start_is : (c : After-set) → c.place_near-start.result
@@ -86,3 +85,6 @@ returns-clause-shown c =
       c.requires.before,
     )
     (rw (serial_more project order c.args.position c.requires.position) at shown)
+
+pub returns-clause-answer : goal.returns-clause-answer
+returns-clause-answer c = start_is c

@@ -49,19 +49,19 @@ undone c long all =
     let count = length-serial c.args.list.now.network.project c.args.list.now.order ∙ long in
     rw (all, count) at (ap (λ (line : Timeline). line.bookings) c.undo.ensures)
 
-pub serial_step-requires-clause-before : goal.serial_step-requires-clause-before
-serial_step-requires-clause-before c =
-    let at = (goal.at.serial_step-requires-clause-before c).After-start-start in
-    let back = (goal.at.serial_step-requires-clause-before c).After-undo in
+pub serial_step-answer-requires-clause-before : goal.serial_step-answer-requires-clause-before
+serial_step-answer-requires-clause-before c =
+    let at = (goal.at.serial_step-answer-requires-clause-before c).After-start-start in
+    let back = (goal.at.serial_step-answer-requires-clause-before c).After-undo in
     let project = c.args.list.now.network.project in
     let order = c.args.list.now.order in
     undone back (counted at).0 (booked at)
     ∙ take-serial_bookings project order (c.count-position.result - 1) (omega (arith, (counted at).0))
 
-pub serial_step-requires-clause-shown : goal.serial_step-requires-clause-shown
-serial_step-requires-clause-shown c =
-    let at = (goal.at.serial_step-requires-clause-shown c).After-start-start in
-    let back = (goal.at.serial_step-requires-clause-shown c).After-undo in
+pub serial_step-answer-requires-clause-shown : goal.serial_step-answer-requires-clause-shown
+serial_step-answer-requires-clause-shown c =
+    let at = (goal.at.serial_step-answer-requires-clause-shown c).After-start-start in
+    let back = (goal.at.serial_step-answer-requires-clause-shown c).After-undo in
     let shown = rw (booked at) at c.serial_on.ensures.shown in
     rw (undone back (counted at).0 (booked at))
     (All-take (λ b. start_at c.serial_on.new.into b.activity ≡ b.start)
@@ -74,7 +74,7 @@ start-requires c =
     let order = c.args.list.now.order in
     let activity = c.net.ensures.feasible.activities (c.count-position.result - 1) 0
     (omega (arith, (counted at).0, (counted at).1)) in
-    rw (c.order.ensures.value, c.serial_step.ensures.start) (
+    rw (c.order.ensures.value, c.serial_step-answer.ensures.start) (
       activity.0,
       omega (
         arith,

@@ -7,5 +7,6 @@ use Rattle.activity_net.proofs.feasible_list.FeasibleList.of.Given as goal
 abbrev pub invariant-loop-position : goal.invariant-loop-position
 invariant-loop-position l = record {
   shows : Shows (activity_count l.net.project) l.listed.items (take l.position l.order);
-  later : later_fault l.net.project (take l.position l.order) (drop l.position l.order) ≡ later_fault l.net.project [] l.order;
+  later : later_fault l.net.project (take l.position l.order) (drop l.position l.order)
+      ≡ later_fault l.net.project [] l.order;
 }

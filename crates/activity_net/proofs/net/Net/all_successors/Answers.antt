@@ -15,23 +15,34 @@ pub overflow_add-count : goal.overflow_add-count
 overflow_add-count c =
     let named = names (followers c.args.self.now.project c.args.activity) in
     let few = count_by-le-length named (numbers (c.loop-later.later - 1)) in
-    omega (arith, length-numbers (c.loop-later.later - 1), c.count-later-end.ensures.limits.activities, c.count-later-end.ensures.value)
+    omega (
+      arith,
+      length-numbers (c.loop-later.later - 1),
+      c.count-later-end.ensures.limits.activities,
+      c.count-later-end.ensures.value,
+    )
 
 pub loop-later-preserved : goal.loop-later-preserved
 loop-later-preserved c =
     let named = names (followers c.args.self.now.project c.args.activity) in
     let before = c.loop-later.count in
     elim c.if-follows.branch [
-      | then-follows w ↦ count_by-numbers_next named c.loop-later.later c.if-follows.count before c.follows.result (omega arith) c.follows.ensures.value
-          c.loop-later.invariant (w.count-is ∙ ap (λ (b : Bool). before + (if b then 1 else 0)) (sym w.if-follows.true))
-      | else-follows w ↦ count_by-numbers_next named c.loop-later.later c.if-follows.count before c.follows.result (omega arith) c.follows.ensures.value
-          c.loop-later.invariant (w.count-is ∙ (sym (add-zero before) ∙ ap (λ (b : Bool). before + (if b then 1 else 0)) (sym w.if-follows.false)))
+      | then-follows w ↦ count_by-numbers_next named c.loop-later.later c.if-follows.count before
+          c.follows.result (omega arith) c.follows.ensures.value
+          c.loop-later.invariant (w.count-is ∙ ap (λ (b : Bool). before + (if b then 1 else 0))
+          (sym w.if-follows.true))
+      | else-follows w ↦ count_by-numbers_next named c.loop-later.later c.if-follows.count before
+          c.follows.result (omega arith) c.follows.ensures.value
+          c.loop-later.invariant
+          (w.count-is ∙ (sym (add-zero before)
+          ∙ ap (λ (b : Bool). before + (if b then 1 else 0)) (sym w.if-follows.false)))
     ]
 
 pub returns : goal.returns
 returns c =
     let project = c.args.self.now.project in
-    let limits = subst (λ (network : Network). IsWithinLimits network.project) c.self.view_is c.self.invariant.limits in
+    let limits = subst (λ (network : Network). IsWithinLimits network.project) c.self.view_is
+    c.self.invariant.limits in
     let all : c.loop-later.later - 1 ≡ activity_count project = omega (
       arith,
       c.count-later-end.ensures.value,

@@ -5,4 +5,5 @@ use Rattle.activity_net.specs.Follows.{followers}
 use Rattle.activity_net.proofs.net.Net.all_successors.Given as goal
 
 abbrev pub invariant-loop-later : goal.invariant-loop-later
-invariant-loop-later l = l.count ≡ count_by (names (followers l.self.project l.activity)) (numbers (l.later - 1))
+invariant-loop-later l = l.count ≡ count_by (names (followers l.self.project l.activity))
+    (numbers (l.later - 1))

@@ -26,14 +26,19 @@ returns-clause-chain c =
     ) in
     let read : c.deref.result.now ≡ set_of (lists_in inside.followers.items) a =
     c.deref.ensures.value ∙ (ap (λ (v : Vec ℕ Global). v.items) c.index.ensures
-    ∙ sym (get_or-map (λ (v : Vec ℕ Global). v.items) inside.followers.items (a - 1) c.index.result.now [] place)) in
-    let held = (holds.at a (omega (arith, c.requires.activity), omega (arith, c.requires.activity))).at b
+    ∙ sym (get_or-map (λ (v : Vec ℕ Global). v.items) inside.followers.items (a - 1)
+    c.index.result.now [] place)) in
+    let held = (holds.at a
+    (omega (arith, c.requires.activity), omega (arith, c.requires.activity))).at b
     (omega (arith, c.requires.later), omega (arith, c.requires.later)) in
     let value : c.has.result ≡ names (followers project a) b =
     c.has.ensures ∙ (ap (λ (xs : List ℕ). has_bit xs b) read
     ∙ (held ∙ ap (λ (network : Network). names (followers network.project a) b) c.self.view_is)) in
-    let limits = subst (λ (network : Network). IsWithinLimits network.project) c.self.view_is c.self.invariant.limits in
-    let feasible = subst (λ (network : Network). IsFeasibleList network.project network.order) c.self.view_is c.self.invariant.feasible in (
+    let limits = subst (λ (network : Network). IsWithinLimits network.project) c.self.view_is
+    c.self.invariant.limits in
+    let feasible = subst (λ (network : Network). IsFeasibleList network.project network.order)
+    c.self.view_is c.self.invariant.feasible in (
       λ has. follows_named project a b (sym value ∙ has),
-      λ follows. value ∙ named_follower project c.args.self.now.order a b limits feasible c.requires.activity follows,
+      λ follows. value ∙ named_follower project c.args.self.now.order a b limits feasible
+          c.requires.activity follows,
     )

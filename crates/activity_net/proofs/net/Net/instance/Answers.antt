@@ -6,5 +6,6 @@ use Rattle.activity_net.proofs.net.Net.instance.Goals as goal
 
 pub returns-clause-acyclic : goal.returns-clause-acyclic
 returns-clause-acyclic c ring =
-    let feasible = subst (λ (network : Network). IsFeasibleList network.project network.order) c.self.view_is c.self.invariant.feasible in
+    let feasible = subst (λ (network : Network). IsFeasibleList network.project network.order)
+    c.self.view_is c.self.invariant.feasible in
     feasible_list-no_cycle c.args.self.now.project c.args.self.now.order ring feasible

@@ -8,7 +8,10 @@ pub returns : goal.returns
 unfolding shown_ring
 returns c =
     let project = c.args.instance.now in
-    with_items_is c.reverse.new.self c.turn_to_least.new.ring (c.turn_to_least.auto.ring ∙ c.deref_mut.ensures.len)
+    with_items_is c.reverse.new.self c.turn_to_least.new.ring
+    (c.turn_to_least.auto.ring ∙ c.deref_mut.ensures.len)
     ∙ (c.turn_to_least.ensures
-    ∙ (ap from_least (c.deref_mut.ensures.value ∙ (c.reverse.ensures.items ∙ ap reverse c.in_ok-numbers.ensures))
-    ∙ ap (λ (start : ℕ). from_least (reverse (way_back project (activity_count project + 1) [] start))) c.requires.start))
+    ∙ (ap from_least (c.deref_mut.ensures.value ∙ (c.reverse.ensures.items
+    ∙ ap reverse c.in_ok-numbers.ensures))
+    ∙ ap (λ (start : ℕ). from_least
+    (reverse (way_back project (activity_count project + 1) [] start))) c.requires.start))

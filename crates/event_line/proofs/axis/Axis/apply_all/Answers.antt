@@ -1,15 +1,21 @@
 use Rattle.std.proofs.Common.{◌+◌, ◌<◌, length, get_or, sym, ap, ◌∙◌, subst, refl, arith}
 use Rattle.rc_instance.specs.Project.{resource_count}
 use Rattle.event_line.specs.Chain.{Nodes}
-use Rattle.event_line.proofs.CalendarLaws.{changed, capacity_after, capacity_after_more, capacity_after_all, change_resource}
+use Rattle.event_line.proofs.CalendarLaws.{changed, capacity_after, capacity_after_more, capacity_after_all, change_resource, change_capacity}
 use Rattle.event_line.proofs.axis.Axis.apply_all.Goals as goal
 
 pub loop-index-init : goal.loop-index-init
 unfolding capacity_after
 loop-index-init c = (refl, refl, c.requires.filled.each)
 
-pub apply-requires : goal.apply-requires
-apply-requires c =
+pub apply-requires-clause-capacity : goal.apply-requires-clause-capacity
+apply-requires-clause-capacity c =
+    let project = c.args.instance.now in
+    change_capacity (resource_count project) c.loop-index.index project.changes c.change.result
+    c.requires.limits.calendar c.change.ensures
+
+pub apply-requires-clause-resource : goal.apply-requires-clause-resource
+apply-requires-clause-resource c =
     let project = c.args.instance.now in
     let calendar = c.requires.limits.calendar in
     let within = change_resource (resource_count project) c.loop-index.index project.changes

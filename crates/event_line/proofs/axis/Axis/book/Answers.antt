@@ -11,10 +11,10 @@ take-requires-clause-room c =
     let nodes = c.split_both-first.result in
     let span = c.args.span in
     let some = c.requires.duration in
-    room_of_span old.width old.chain.periods old.free.items now.chain.periods now.free.items
+    rw c.copied-own.ensures (room_of_span old.chain.periods old.free.rows now.chain.periods now.free.rows
     c.args.demands.now span.first span.last nodes.0 nodes.1 span.start
-    (span.start + c.args.duration) made.refined c.requires.width c.requires.room c.requires.first
-    c.requires.last (omega arith) made.first made.end
+    (span.start + c.args.duration) made.refined c.requires.room c.requires.first c.requires.last
+    (omega arith) made.first made.end)
 
 pub returns-clause-booked : goal.returns-clause-booked
 returns-clause-booked c =
@@ -23,7 +23,7 @@ returns-clause-booked c =
     let new = c.take.new.self in
     let made = c.split_both-first.ensures in
     let same = ap (λ (n : Nodes). n.periods) c.take.ensures.chain in
-    let taken = rw (made.first, made.end) at c.take.ensures.taken in
-    rw same (booked_from old.chain.periods old.free.items now.chain.periods now.free.items
-    new.free.items c.args.demands.now old.width c.args.span.start
-    (c.args.span.start + c.args.duration) made.refined c.requires.width taken)
+    let taken = rw (made.first, made.end, c.copied-own.ensures) at c.take.ensures.taken in
+    rw same (booked_from old.chain.periods old.free.rows now.chain.periods now.free.rows
+    new.free.rows c.args.demands.now c.args.span.start (c.args.span.start + c.args.duration)
+    made.refined taken)

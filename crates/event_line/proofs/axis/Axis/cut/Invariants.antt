@@ -9,8 +9,7 @@ invariant-loop-self l =
     × (l.self.chain.periods ≡ take (length l.self.chain.periods) old)
     × (length l.self.chain.periods ≤ length old)
     × (l.self.chain.room ≡ l.initial.self.chain.room)
-    × (l.self.free.items ≡ l.initial.self.free.items)
-    × (l.self.width ≡ l.initial.self.width)
+    × (l.self.free ≡ l.initial.self.free)
 
 abbrev pub decreases-loop-self : goal.decreases-loop-self
 decreases-loop-self l = length l.self.chain.periods

@@ -6,12 +6,11 @@ use Rattle.event_line.proofs.axis.Axis.give.Given as goal
 abbrev pub invariant-loop-self : goal.invariant-loop-self
 invariant-loop-self l =
     let periods = l.self.chain.periods in
-    (l.self.chain ≡ l.initial.self.chain) × (l.self.width ≡ l.initial.self.width)
+    (l.self.chain ≡ l.initial.self.chain) × (l.self.free.width ≡ l.initial.self.free.width)
     × (l.node < length periods)
     × (get_or periods l.first 0 ≤ get_or periods l.node 0)
     × (get_or periods l.node 0 ≤ get_or periods l.end 0)
-    × IsTaken periods l.self.free.items l.initial.self.free.items l.demands
-    (get_or periods l.first 0) (get_or periods l.node 0)
+    × IsTaken periods l.self.free.rows l.initial.self.free.rows l.demands (get_or periods l.first 0) (get_or periods l.node 0)
 
 abbrev pub decreases-loop-self : goal.decreases-loop-self
 decreases-loop-self l =

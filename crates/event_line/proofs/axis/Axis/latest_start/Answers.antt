@@ -8,7 +8,7 @@ previous-last-requires-clause-after c =
     let l = c.loop-first in
     let t = c.requires.exists.0 in
     let ends = l.invariant.2 t c.requires.exists.1 c.requires.exists.2 in
-    let first = ends_earlier c.args.self.now.chain.periods c.args.self.now.free.items
+    let first = ends_earlier c.args.self.now.chain.periods c.args.self.now.free.rows
     c.args.demands.now c.in-Err.full t (l.end - c.args.duration) c.args.duration
     c.in-Err.ensures.full c.in-Err.ensures.latest (omega arith) c.requires.duration
     c.requires.exists.2 in
@@ -39,7 +39,7 @@ loop-first-preserved c =
       omega arith,
       λ u by room.
           let before = l.invariant.2 u by room in
-          let sooner = ends_earlier periods c.args.self.now.free.items c.args.demands.now
+          let sooner = ends_earlier periods c.args.self.now.free.rows c.args.demands.now
           c.in-Err.full u (l.end - c.args.duration) c.args.duration c.in-Err.ensures.full
           c.in-Err.ensures.latest (omega arith) some room in
           omega arith,

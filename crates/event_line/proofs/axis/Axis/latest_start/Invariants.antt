@@ -7,7 +7,7 @@ use Rattle.event_line.proofs.axis.Axis.latest_start.Given as goal
 abbrev pub invariant-loop-first : goal.invariant-loop-first
 invariant-loop-first l = StandsFor l.self.chain.periods l.last (l.end - 1) × (l.end ≤ l.by)
     × ((t : ℕ) → t + l.duration ≤ l.by
-    → HasRoomFor l.self.chain.periods l.self.free.items l.demands t l.duration
+    → HasRoomFor l.self.chain.periods l.self.free.rows l.demands t l.duration
     → t + l.duration ≤ l.end)
 
 abbrev pub decreases-loop-first : goal.decreases-loop-first

@@ -1,29 +1,56 @@
-use Rattle.std.proofs.Common.{sym, subst, arith}
-use Rattle.event_line.specs.Chain.{StandsFor}
-use Rattle.event_line.proofs.ChainLaws.{node_later}
-use Rattle.event_line.proofs.RowLaws.{stands_itself}
-use Rattle.event_line.proofs.SearchLaws.{starts_later}
+use Rattle.std.proofs.Common.{arith}
+use Rattle.event_line.specs.Rows.{HasRoom}
+use Rattle.event_line.proofs.SearchLaws.{searched_full, searched_room}
 use Rattle.event_line.proofs.axis.Axis.least_start.Goals as goal
+use Rattle.event_line.proofs.axis.Axis.least_start.Goals.{then-full, else-full}
 
-pub loop-last-preserved : goal.loop-last-preserved
-loop-last-preserved c =
-    let l = c.loop-last in
+pub overflow_add-start : goal.overflow_add-start
+overflow_add-start c =
+    let l = c.loop-start in
     let periods = c.args.self.now.chain.periods in
-    let free = c.args.self.now.free.items in
-    let near = c.next-first.ensures.neighbours in
-    let here = c.period-start.ensures.value in
-    let rise = near.rise in
-    let from = c.in-Err.ensures.from in
-    let before = c.in-Err.ensures.before in
-    let after = node_later periods l.first c.next-first.result l.start l.invariant.0 near.second
-    (omega arith) in
-    let low = l.invariant.1 in (
-      subst (StandsFor periods c.next-first.result) (sym here)
-          (stands_itself periods c.next-first.result near.second),
-      omega arith,
-      λ t at room.
-          let start = l.invariant.2 t at room in
-          let later = starts_later periods free c.args.demands.now c.in-Err.full c.next-first.result
-          t c.args.duration c.in-Err.ensures.full near (omega arith) c.requires.duration room in
-          omega arith,
-    )
+    let free = c.args.self.now.free.rows in
+    let soon = c.requires.exists.2 in
+    elim c.if-full.branch [
+      | then-full w ↦
+          let full : HasRoom free c.args.demands.now l.node → ⊥ = λ room.
+          let is = c.has_room-full.ensures.1 room in
+          let off = rw is at w.if-full.true in
+          cc in
+          let later = searched_full periods free c.args.demands.now c.args.duration c.args.from l.start
+          l.first l.node c.next-next.result l.invariant c.requires.duration
+          c.next-next.ensures.neighbours full in
+          let start = later.least c.requires.exists.0 c.requires.exists.1 c.requires.exists.3 in
+          let period = c.period-period.ensures.value in
+          let is = w.start-is in
+          omega arith
+      | else-full w ↦
+          let start = l.invariant.least c.requires.exists.0 c.requires.exists.1 c.requires.exists.3 in
+          let is = w.start-is in
+          omega arith
+    ]
+
+pub loop-start-preserved : goal.loop-start-preserved
+loop-start-preserved c =
+    let l = c.loop-start in
+    let periods = c.args.self.now.chain.periods in
+    let free = c.args.self.now.free.rows in
+    elim c.if-full.branch [
+      | then-full w ↦
+          let full : HasRoom free c.args.demands.now l.node → ⊥ = λ room.
+          let is = c.has_room-full.ensures.1 room in
+          let off = rw is at w.if-full.true in
+          cc in
+          rw (w.start-is, w.first-is, c.period-period.ensures.value)
+          (searched_full periods free c.args.demands.now c.args.duration c.args.from l.start l.first
+          l.node c.next-next.result l.invariant c.requires.duration c.next-next.ensures.neighbours
+          full)
+      | else-full w ↦
+          let room : HasRoom free c.args.demands.now l.node = grind arith in
+          let start = w.start-is in
+          let period = c.period-period.ensures.value in
+          let before = c.if-start-duration.false in
+          rw (w.start-is, w.first-is)
+          (searched_room periods free c.args.demands.now c.args.duration c.args.from l.start l.first
+          l.node c.next-next.result l.invariant c.next-next.ensures.chain
+          c.next-next.ensures.neighbours room (omega arith))
+    ]

@@ -1,14 +1,12 @@
-use Rattle.std.proofs.Common.{ℕ, ◌-◌, ◌≤◌}
+use Rattle.std.proofs.Common.{◌-◌, get_or}
 use Rattle.event_line.specs.declared.chain.TheConstants.{FAR}
-use Rattle.event_line.specs.Chain.{StandsFor}
-use Rattle.event_line.specs.Rows.{HasRoomFor}
+use Rattle.event_line.proofs.SearchLaws.{IsSearched}
 use Rattle.event_line.proofs.axis.Axis.least_start.Given as goal
 
--- no start from the floor on that has room comes before the start
-abbrev pub invariant-loop-last : goal.invariant-loop-last
-invariant-loop-last l = StandsFor l.self.chain.periods l.first l.start × (l.from ≤ l.start)
-    × ((t : ℕ) → l.from ≤ t
-    → HasRoomFor l.self.chain.periods l.self.free.items l.demands t l.duration → l.start ≤ t)
+abbrev pub invariant-loop-start : goal.invariant-loop-start
+invariant-loop-start l =
+    IsSearched l.self.chain.periods l.self.free.rows l.demands l.duration l.from l.start l.first
+    l.node
 
-abbrev pub decreases-loop-last : goal.decreases-loop-last
-decreases-loop-last l = FAR - l.start
+abbrev pub decreases-loop-start : goal.decreases-loop-start
+decreases-loop-start l = FAR - get_or l.self.chain.periods l.node 0

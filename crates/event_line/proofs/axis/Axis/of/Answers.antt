@@ -1,4 +1,4 @@
-use Rattle.std.proofs.Common.{◌*◌, ap, subst, sym, ◌∙◌, length, arith}
+use Rattle.std.proofs.Common.{ap, subst, sym, ◌∙◌, length, arith}
 use Rattle.event_line.specs.Chain.{Nodes}
 use Rattle.event_line.specs.Shown.{HasChanges}
 use Rattle.event_line.proofs.axis.Axis.of.Goals as goal
@@ -15,8 +15,9 @@ invariant_of-axis c =
     let room = ap (λ (n : Nodes). n.room) c.in_ok-axis.ensures.0 in
     let count = c.change_count.ensures in
     let same = c.mark_changes.ensures.room in
+    let start = ap (λ (n : Nodes). length n.periods) c.in_ok-axis.ensures.0 in
     record {
-      shape = axis.shape ∙ ap (λ n. n * axis.width) (sym c.mark_changes.ensures.room);
+      shape = axis.shape ∙ sym same;
       nodes = omega arith;
     }
 

@@ -11,7 +11,7 @@ invariant-loop-last l =
     × ((i : ℕ) → i < length periods → get_or periods i 0 ≤ l.start
     → get_or periods i 0 ≤ get_or periods l.node 0)
     × ((i : ℕ) → i < length periods → get_or periods l.node 0 < get_or periods i 0
-    → get_or periods i 0 ≤ get_or periods l.last 0 → HasRoom l.self.free.items l.demands i)
+    → get_or periods i 0 ≤ get_or periods l.last 0 → HasRoom l.self.free.rows l.demands i)
 
 abbrev pub decreases-loop-last : goal.decreases-loop-last
 decreases-loop-last l = get_or l.self.chain.periods l.node 0

@@ -1,5 +1,3 @@
-use Rattle.std.proofs.Common.{subst}
-use Rattle.event_line.specs.Rows.{IsRefined}
 use Rattle.event_line.proofs.RowLaws.{refined_trans, stands_still}
 use Rattle.event_line.proofs.axis.Axis.split_both.Goals as goal
 
@@ -15,8 +13,5 @@ returns-clause-refined c =
     let old = c.args.self.now in
     let now = c.split_end-end_node.new.self in
     let new = c.split-first_node.new.self in
-    let made = c.split_end-end_node.ensures in
-    refined_trans old.width old.chain.periods old.free.items now.chain.periods now.free.items
-    new.chain.periods new.free.items made.refined
-    (subst (λ w. IsRefined w now.chain.periods now.free.items new.chain.periods new.free.items)
-    made.width c.split-first_node.ensures.refined)
+    refined_trans old.chain.periods old.free.rows now.chain.periods now.free.rows new.chain.periods
+    new.free.rows c.split_end-end_node.ensures.refined c.split-first_node.ensures.refined

@@ -1,4 +1,4 @@
-use Rattle.std.proofs.Common.{◌<◌, [], ◌∷◌, length, set, get_or, subst, sym, ap, ◌∙◌, arith, length-append, length-set}
+use Rattle.std.proofs.Common.{◌<◌, [], ◌∷◌, ◌++◌, length, set, get_or, subst, sym, ap, ◌∙◌, arith, length-append, length-set}
 use Rattle.std.proofs.lemmas.List.{get_or_read}
 use Rattle.event_line.specs.Chain.{Nodes, StandsFor}
 use Rattle.event_line.proofs.ChainLaws.{linked_more}

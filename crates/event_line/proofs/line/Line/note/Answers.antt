@@ -3,22 +3,17 @@ use Rattle.rc_instance.specs.Project.{IsActivity, duration}
 use Rattle.event_line.specs.declared.entry.Entry.{Entry}
 use Rattle.event_line.specs.Journal.{IsEntry, bookings_in}
 use Rattle.event_line.specs.Timeline.{Timeline, IsUnbooked}
-use Rattle.event_line.proofs.JournalLaws.{entries_fewer}
+use Rattle.event_line.proofs.KeepLaws.{kept_entry}
 use Rattle.event_line.proofs.StateLaws.{shown_idle}
 use Rattle.event_line.proofs.line.Line.note.Goals as goal
 
 pub push_reserved-requires : goal.push_reserved-requires
 push_reserved-requires c =
-    let inside = c.self.inside in
-    let keeps = c.self.invariant in
-    let shown = keeps.shown in
-    let few = entries_fewer inside.instance.now inside.axis.chain.periods
-    (length inside.base.chain.periods) inside.entries.items c.args.activity shown.journal shown.once
+    let room = kept_entry c.self.inside c.args.activity c.self.invariant
     (subst (λ (v : Timeline). IsActivity v.project c.args.activity) (sym c.self.view_is)
     c.requires.activity)
     (subst (λ (v : Timeline). IsUnbooked v.bookings c.args.activity) (sym c.self.view_is)
     c.requires.unbooked) in
-    let reserved = keeps.reserved in
     omega arith
 
 pub invariant_of-self : goal.invariant_of-self
@@ -53,7 +48,7 @@ invariant_of-self c =
     subst (λ (v : Timeline). IsUnbooked v.bookings c.args.activity) (sym c.self.view_is)
     c.requires.unbooked in
     let shown = shown_idle project (length inside.base.chain.periods) periods
-    inside.axis.free.items inside.entries.items entry keeps.shown idle count is unbooked in
+    inside.axis.free.rows inside.entries.items entry keeps.shown idle count is unbooked in
     record {
       limits = keeps.limits;
       width = keeps.width;
@@ -62,6 +57,9 @@ invariant_of-self c =
       base_room = keeps.base_room;
       reserved = rw c.push_reserved.ensures.capacity keeps.reserved;
       hints = length-set inside.ends.items (c.args.activity - 1) node ∙ keeps.hints;
+      demands_count = keeps.demands_count;
+      demands = keeps.demands;
+      longer = keeps.longer;
       base = keeps.base;
       shown = rw c.push_reserved.ensures.items shown;
     }

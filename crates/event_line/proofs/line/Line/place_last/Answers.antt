@@ -1,99 +1,91 @@
-use Rattle.std.proofs.Common.{◌+◌, ◌-◌, ◌<◌, ◌≤◌, length, sym, ◌∙◌, subst, arith, length-set}
-use Rattle.rc_instance.specs.Project.{IsActivity, duration}
-use Rattle.rc_instance.specs.Usage.{Fits, IsLastBy}
+use Rattle.std.proofs.Common.{◌-◌, length, sym, subst, arith, length-set}
+use Rattle.rc_instance.specs.Project.{AreDemands}
+use Rattle.rc_instance.specs.Usage.{IsLastBy}
+use Rattle.event_line.specs.Rows.{HasRoomFor}
 use Rattle.event_line.specs.Journal.{bookings_in}
-use Rattle.event_line.specs.Timeline.{Timeline, IsUnbooked}
-use Rattle.event_line.proofs.JournalLaws.{entries_fewer}
+use Rattle.event_line.specs.Timeline.{Timeline, CanPlaceBy}
+use Rattle.event_line.specs.LineView.{timeline_of}
 use Rattle.event_line.proofs.FitLaws.{room_for_fits}
 use Rattle.event_line.proofs.StateLaws.{shown_marked}
-use Rattle.event_line.proofs.PlaceLaws.{last_found, nodes_left, shown_placed}
+use Rattle.event_line.proofs.KeepLaws.{kept_entry, kept_nodes, kept_from_fits, kept_booked, kept_view}
+use Rattle.event_line.proofs.PlaceLaws.{last_found}
 use Rattle.event_line.proofs.line.Line.place_last.Goals as goal
+use Rattle.event_line.proofs.line.Line.place_last.Goals.{After-index-demands}
+
+-- what is asked of the line, said of its fields
+asked : (c : After-index-demands) → CanPlaceBy (timeline_of c.self.inside) c.args.activity c.args.by
+asked c = subst (λ (v : Timeline). CanPlaceBy v c.args.activity c.args.by) (sym c.self.view_is) c.requires
+
+-- what is read is what the activity demands
+demands_are : (c : After-index-demands)
+    → AreDemands c.self.inside.instance.now c.args.activity c.index-demands.result.now
+demands_are c =
+    kept_from_fits c.self.inside c.args.activity c.duration-duration.result
+    (asked c).exists.0 c.index-demands.result.now c.self.invariant (asked c).activity
+    (asked c).exists.2 c.duration-duration.ensures.value c.if-duration-eq0.false
+    c.index-demands.ensures
 
 pub latest_start-span-requires-clause-exists : goal.latest_start-span-requires-clause-exists
 latest_start-span-requires-clause-exists c =
+    let before = (goal.at.latest_start-span-requires-clause-exists c).After-index-demands in
     let inside = c.self.inside in
     let project = inside.instance.now in
-    let bookings = bookings_in inside.entries.items in
-    let d = c.duration-duration.ensures.value in
-    let t = c.requires.exists.0 in
-    let ends = subst (λ (v : Timeline). t + duration v.project c.args.activity ≤ c.args.by)
-    (sym c.self.view_is) c.requires.exists.1 in
-    let fits = subst (λ (v : Timeline). Fits v.project v.bookings c.args.activity t)
-    (sym c.self.view_is) c.requires.exists.2 in
+    let can = asked before in
     let shown = c.self.invariant.shown in
-    let room = room_for_fits project bookings inside.axis.chain.periods inside.axis.free.items
-    c.demands-demands.result.now c.args.activity t (shown_marked project
-    (length inside.base.chain.periods) inside.axis.chain.periods inside.axis.free.items
-    inside.entries.items shown) shown.free c.demands-demands.ensures.demands fits in
-    (t, rw d ends, rw d room)
+    let d = c.duration-duration.ensures.value in
+    let t = can.exists.0 in
+    let ends = can.exists.1 in
+    let room = room_for_fits project (bookings_in inside.entries.items) inside.axis.chain.periods
+    inside.axis.free.rows c.index-demands.result.now c.args.activity t (shown_marked project
+    (length inside.base.chain.periods) inside.axis.chain.periods inside.axis.free.rows
+    inside.entries.items shown) shown.free (demands_are before) can.exists.2 in (
+      t,
+      omega arith,
+      subst (HasRoomFor inside.axis.chain.periods inside.axis.free.rows
+          c.index-demands.result.now t) (sym d) room,
+    )
 
 pub book-entry-requires-clause-nodes : goal.book-entry-requires-clause-nodes
 book-entry-requires-clause-nodes c =
-    let inside = c.self.inside in
-    nodes_left inside.instance.now (length inside.base.chain.periods) inside.axis.chain.room
-    inside.axis.chain.periods inside.axis.free.items inside.entries.items c.args.activity
-    c.self.invariant.shown
-    (subst (λ (v : Timeline). IsActivity v.project c.args.activity) (sym c.self.view_is)
-    c.requires.activity)
-    (subst (λ (v : Timeline). IsUnbooked v.bookings c.args.activity) (sym c.self.view_is)
-    c.requires.unbooked) c.self.invariant.room
+    let can = asked (goal.at.book-entry-requires-clause-nodes c).After-index-demands in
+    kept_nodes c.self.inside c.args.activity c.self.invariant can.activity can.unbooked
 
 pub push_reserved-requires : goal.push_reserved-requires
 push_reserved-requires c =
-    let inside = c.self.inside in
-    let shown = c.self.invariant.shown in
-    let few = entries_fewer inside.instance.now inside.axis.chain.periods
-    (length inside.base.chain.periods) inside.entries.items c.args.activity shown.journal shown.once
-    (subst (λ (v : Timeline). IsActivity v.project c.args.activity) (sym c.self.view_is)
-    c.requires.activity)
-    (subst (λ (v : Timeline). IsUnbooked v.bookings c.args.activity) (sym c.self.view_is)
-    c.requires.unbooked) in
-    let reserved = c.self.invariant.reserved in
+    let can = asked (goal.at.push_reserved-requires c).After-index-demands in
+    let room = kept_entry c.self.inside c.args.activity c.self.invariant can.activity can.unbooked in
     omega arith
 
 pub invariant_of-self : goal.invariant_of-self
 invariant_of-self c =
-    let inside = c.self.inside in
-    let keeps = c.self.invariant in
-    let project = inside.instance.now in
-    let n = length inside.base.chain.periods in
-    let new = c.book-entry.new.self in
+    let before = (goal.at.invariant_of-self c).After-index-demands in
+    let can = asked before in
     let entry = c.book-entry.result in
     let booked = c.book-entry.ensures in
-    let d = c.duration-duration.ensures.value in
-    let start = c.latest_start-span.result.start in
-    let runs : 0 < duration project c.args.activity = omega arith in
-    let shown = shown_placed project n inside.axis.chain.periods inside.axis.free.items
-    new.chain.periods new.free.items c.demands-demands.result.now inside.entries.items
-    c.args.activity start entry keeps.shown c.demands-demands.ensures.demands
-    (subst (λ (v : Timeline). IsActivity v.project c.args.activity) (sym c.self.view_is)
-    c.requires.activity)
-    (subst (λ (v : Timeline). IsUnbooked v.bookings c.args.activity) (sym c.self.view_is)
-    c.requires.unbooked) runs booked.longer booked.few (rw d at booked.booked)
-    (rw d at booked.entry) in
-    record {
-      limits = keeps.limits;
-      width = booked.width ∙ keeps.width;
-      base_width = keeps.base_width;
-      room = rw booked.room keeps.room;
-      base_room = rw booked.room keeps.base_room;
-      reserved = rw c.push_reserved.ensures.capacity keeps.reserved;
-      hints = length-set inside.ends.items (c.args.activity - 1) entry.end ∙ keeps.hints;
-      base = keeps.base;
-      shown = rw c.push_reserved.ensures.items shown;
-    }
+    kept_booked c.self.inside c.book-entry.new.self c.push_reserved.new.self _ c.args.activity c.duration-duration.result
+    c.latest_start-span.result.start entry c.index-demands.result.now c.self.invariant
+    (demands_are before) can.activity can.unbooked c.duration-duration.ensures.value
+    c.if-duration-eq0.false booked.longer booked.few booked.booked booked.entry booked.room
+    booked.width c.push_reserved.ensures.items c.push_reserved.ensures.capacity
+    (length-set c.self.inside.ends.items (c.args.activity - 1) entry.end)
 
-pub returns-clause-last : goal.returns-clause-last
-returns-clause-last c =
+pub returns : goal.returns
+returns c =
+    let before = (goal.at.returns c).After-index-demands in
     let inside = c.self.inside in
     let project = inside.instance.now in
     let span = c.latest_start-span.result in
-    let d = c.duration-duration.ensures.value in
-    let found = rw d at c.latest_start-span.ensures in
-    subst (λ (v : Timeline). IsLastBy v.project v.bookings c.args.activity c.args.by span.start)
-    c.self.view_is
-    (last_found project (length inside.base.chain.periods) inside.axis.chain.periods
-    inside.axis.free.items c.demands-demands.result.now inside.entries.items c.args.activity
-    c.args.by span.start span.first span.last c.self.invariant.shown
-    c.demands-demands.ensures.demands c.node_or_head-near.ensures.chain found.ends found.first
-    found.last found.room found.latest)
+    let found = rw c.duration-duration.ensures.value at c.latest_start-span.ensures in
+    record {
+      last = subst (λ (v : Timeline). IsLastBy v.project v.bookings c.args.activity c.args.by
+          span.start) c.self.view_is
+          (last_found project (length inside.base.chain.periods) inside.axis.chain.periods
+          inside.axis.free.rows c.index-demands.result.now inside.entries.items c.args.activity
+          c.args.by span.start span.first span.last c.self.invariant.shown (demands_are before)
+          c.node_or_head-near.ensures.chain found.ends found.first found.last found.room
+          found.latest);
+      booked = kept_view inside c.args.self.now c.push_reserved.new.self.items c.book-entry.result
+          c.book-entry.new.self.chain.periods c.args.activity span.start
+          c.duration-duration.result c.self.view_is c.push_reserved.ensures.items
+          c.book-entry.ensures.entry;
+    }

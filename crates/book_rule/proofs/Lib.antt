@@ -1,0 +1,16 @@
+pub mod ListedLaws
+pub mod ReachLaws
+pub mod WordLaws
+pub mod SearchCases
+pub mod SearchLaws
+pub mod ViewLaws
+pub mod MoveLaws
+pub mod TurnLaws
+pub mod HandLaws
+pub mod StepLaws
+pub mod LoadLaws
+pub mod OfferLaws
+pub mod SeatViews
+pub mod OpenLaws
+pub mod SeatKnowledge
+pub mod SeatLaws

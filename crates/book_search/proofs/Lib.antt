@@ -1,0 +1,4 @@
+pub mod SoughtLaws
+pub mod ReadLaws
+pub mod RoomLaws
+pub mod FloorLaws

@@ -1,0 +1,9 @@
+pub mod BookLaws
+pub mod LaneLaws
+pub mod FreshLaws
+pub mod FillLaws
+pub mod NewLaws
+pub mod ShutLaws
+pub mod ClosedLaws
+pub mod TakenLaws
+pub mod CloseLaws

@@ -1,0 +1,5 @@
+pub mod Passes
+pub mod BookView
+pub mod Taken
+pub mod ShutView
+pub mod ClosedView

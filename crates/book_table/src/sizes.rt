@@ -1,0 +1,212 @@
+// What a book knows of its list: how long its positions last, what they need, and where its words stand.
+ghost use Rattle.std.specs.Prelude.{◌≡◌, ℕ, ◌+◌, ◌*◌, ◌<◌, ◌≤◌, nat_lt, if◌then◌else◌};
+ghost use Rattle.rc_instance.specs.Project.{IsActivity, duration, demand, capacity_at, resource_count};
+ghost use Rattle.rc_instance.specs.Misfit.{HasNoMisfit};
+ghost use Rattle.capacity_profile.specs.Lanes.{lane_of};
+ghost use Rattle.book_rule.specs.Listed.{count, width, horizon_of, activity_at, project_of, lasts, before_count, before, need, room, IsBookable};
+ghost use Rattle.book_rule.specs.Layout.{place, profile_word, floor_word, offer_word, blocks, word_count};
+ghost use Rattle.book_rule.specs.Searches.{block_end};
+ghost use Rattle.book_rule.specs.Views.{lets_rest};
+
+use crate::book::Book;
+use capacity_profile::pack;
+use rc_instance::Instance;
+
+impl<'n> Book<'n> {
+    /// How many positions there are.
+    pub fn positions(&self) -> u32
+        ensures value { result ≡ count self.now.listing }
+        ensures bookable { IsBookable self.now.listing }
+    {
+        self.positions
+    }
+
+    /// How many words a period has.
+    pub fn words(&self) -> u32
+        ensures value { result ≡ width self.now.listing }
+        ensures few { result ≤ 4 }
+    {
+        self.words
+    }
+
+    /// How many periods there are.
+    pub fn horizon(&self) -> u32
+        ensures value { result ≡ horizon_of self.now.listing }
+        ensures small { result ≤ 131070 }
+        ensures bookable { IsBookable self.now.listing }
+    {
+        self.horizon
+    }
+
+    /// How many blocks of 32 periods there are, the last one cut at the horizon.
+    pub fn blocks(&self) -> u32
+        ensures { result ≡ blocks self.now.listing }
+    {
+        (self.horizon + 31) / 32
+    }
+
+    /// The first period past a block, or past all.
+    pub fn block_end(&self, block: u32) -> u32
+        requires { block < blocks self.now.listing }
+        ensures value { result ≡ block_end self.now.listing block }
+        ensures within { (32 * block < result) × (result ≤ 131070) }
+    {
+        self.horizon.min(32 * block + 32)
+    }
+
+    /// The activity at a position.
+    pub fn activity(&self, position: u32) -> u32
+        requires { position < count self.now.listing }
+        ensures value { result ≡ activity_at self.now.listing position }
+        ensures activity { IsActivity (project_of self.now.listing) result }
+    {
+        self.list.order()[position as usize]
+    }
+
+    /// The position of an activity.
+    pub fn position_of(&self, activity: u32) -> u32
+        requires { IsActivity (project_of self.now.listing) activity }
+        ensures within { result < count self.now.listing }
+        ensures value { activity_at self.now.listing result ≡ activity }
+    {
+        self.places[activity as usize - 1]
+    }
+
+    /// How many periods the activity at a position takes.
+    #[tactic(auto, unfolding(book_rule::specs::Listed::lasts))]
+    pub fn lasts(&self, position: u32) -> u32
+        requires { position < count self.now.listing }
+        ensures value { result ≡ lasts self.now.listing position }
+        ensures small { result ≤ 65535 }
+    {
+        self.list.net().instance().duration(self.activity(position))
+    }
+
+    /// How many direct predecessors it has.
+    #[tactic(auto, unfolding(book_rule::specs::Listed::before_count))]
+    pub fn before_count(&self, position: u32) -> u32
+        requires { position < count self.now.listing }
+        ensures { result ≡ before_count self.now.listing position }
+    {
+        self.list.net().predecessor_count(self.activity(position))
+    }
+
+    /// Its direct predecessor at a place of their rising order, counted from 0.
+    #[tactic(auto, unfolding(book_rule::specs::Listed::before_count, book_rule::specs::Listed::before))]
+    pub fn before(&self, position: u32, index: u32) -> u32
+        requires position { position < count self.now.listing }
+        requires index { index < before_count self.now.listing position }
+        ensures value { result ≡ before self.now.listing position index }
+        ensures activity { IsActivity (project_of self.now.listing) result }
+    {
+        self.list.net().predecessor(self.activity(position), index)
+    }
+
+    // Whether a pass that has seen this turn rests.
+    pub(crate) fn lets_rest(&self, turn: u64) -> bool
+        ensures { result ≡ lets_rest self.now.listing turn }
+    {
+        turn % 2 == 1 || turn == 2 * self.positions as u64
+    }
+
+    // What the activity at a position needs of the resources in a word.
+    pub(crate) fn demand_word(&self, position: u32, index: u32) -> u64
+        requires position { position < count self.now.listing }
+        requires runs { 0 < lasts self.now.listing position }
+        requires index { index < width self.now.listing }
+        ensures { (l : ℕ) → l < 4 → lane_of result l ≡ need self.now.listing position index l }
+    {
+        let instance = self.list.net().instance();
+        let activity = self.activity(position);
+        let first = 4 * index;
+        pack([
+            demand_of(instance, activity, first),
+            demand_of(instance, activity, first + 1),
+            demand_of(instance, activity, first + 2),
+            demand_of(instance, activity, first + 3),
+        ])
+    }
+
+    // How much there is in a period of the resources in a word.
+    pub(crate) fn capacity_word(&self, period: u32, index: u32) -> u64
+        requires { index < width self.now.listing }
+        ensures { (l : ℕ) → l < 4 → lane_of result l ≡ room self.now.listing index l period }
+    {
+        let instance = self.list.net().instance();
+        let first = 4 * index;
+        pack([
+            capacity_of(instance, first, period),
+            capacity_of(instance, first + 1, period),
+            capacity_of(instance, first + 2, period),
+            capacity_of(instance, first + 3, period),
+        ])
+    }
+
+    // Where the offer for a position stands.
+    pub(crate) fn offer_place(&self, position: u32) -> usize
+        requires { position < count self.now.listing }
+        ensures value { result ≡ offer_word self.now.listing position }
+        ensures within { result < word_count self.now.listing }
+    {
+        2 + self.positions as usize + position as usize
+    }
+
+    // Where a word of a period stands.
+    pub(crate) fn profile_place(&self, period: u32, index: u32) -> usize
+        requires period { period < horizon_of self.now.listing }
+        requires index { index < width self.now.listing }
+        ensures value { result ≡ profile_word self.now.listing period index }
+        ensures within { result < word_count self.now.listing }
+    {
+        2 + 2 * self.positions as usize + place(self.words, period, index)
+    }
+
+    // Where a floor of a block stands.
+    pub(crate) fn floor_place(&self, block: u32, index: u32) -> usize
+        requires block { block < blocks self.now.listing }
+        requires index { index < width self.now.listing }
+        ensures value { result ≡ floor_word self.now.listing block index }
+        ensures within { result < word_count self.now.listing }
+    {
+        let floors = place(self.words, self.horizon, 0);
+        2 + 2 * self.positions as usize + floors + place(self.words, block, index)
+    }
+}
+
+// A column of a row, where a row has so many words, and is a period or a block.
+pub(crate) fn place(words: u32, row: u32, column: u32) -> usize
+    requires words { words ≤ 4 }
+    requires row { row ≤ 131070 }
+    requires column { column ≤ 4 }
+    ensures value { result ≡ place words row column }
+    ensures small { result ≤ 524284 }
+{
+    row as usize * words as usize + column as usize
+}
+
+// What an activity demands of a resource, counted from 0, or 0 where there is none.
+fn demand_of(instance: &Instance, activity: u32, resource: u32) -> u16
+    requires activity { IsActivity instance.now activity }
+    requires runs { 0 < duration instance.now activity }
+    requires fits { HasNoMisfit instance.now }
+    requires resource { resource < 16 }
+    ensures { result ≡ (if nat_lt resource (resource_count instance.now) then demand instance.now activity (resource + 1) else 0) }
+{
+    if resource < instance.resources() {
+        instance.demand(activity, resource + 1) as u16
+    } else {
+        0
+    }
+}
+
+// The capacity of a resource, counted from 0, in a period, or 0 where there is none.
+fn capacity_of(instance: &Instance, resource: u32, period: u32) -> u16
+    requires { resource < 16 }
+    ensures { result ≡ (if nat_lt resource (resource_count instance.now) then capacity_at instance.now (resource + 1) period else 0) }
+{
+    if resource < instance.resources() {
+        instance.capacity_at(resource + 1, period) as u16
+    } else {
+        0
+    }
+}

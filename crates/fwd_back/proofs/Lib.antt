@@ -1,0 +1,8 @@
+pub mod BookedLaws
+pub mod FitLaws
+pub mod DueLaws
+pub mod MovingLaws
+pub mod NextLaws
+pub mod PassLaws
+pub mod ImprovedLaws
+mod Rows

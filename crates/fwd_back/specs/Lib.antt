@@ -1,0 +1,5 @@
+pub mod Backward
+pub mod Improved
+pub mod Moving
+pub mod Passes
+pub mod Laws

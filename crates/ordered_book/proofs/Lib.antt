@@ -1,0 +1,4 @@
+pub mod AdvancedLaws
+pub mod WordLaws
+pub mod TryLaws
+pub mod FreshLaws

@@ -1,0 +1,5 @@
+pub mod Fault
+pub mod Parallel
+pub mod NonDelay
+pub mod Laws
+pub mod Passing

@@ -1,0 +1,335 @@
+use crate::case::{Case, each_comes_true};
+use crate::fixtures::{EMPTY, ONE_WRITTEN, RING, SIX, SIX_CRLF, SIX_SM, SIX_WRITTEN};
+use crate::text::Text::{Cut, Lines};
+use std::test::Fail;
+
+static CASES: &[Case] = &[
+    Case {
+        words: "convert e1.rcp --to rcp",
+        files: &[("e1.rcp", SIX_CRLF)],
+        status: 0,
+        out: SIX,
+        note: EMPTY,
+    },
+    Case {
+        words: "convert e1.sm --to rcp",
+        files: &[("e1.sm", SIX_SM)],
+        status: 0,
+        out: SIX,
+        note: EMPTY,
+    },
+    Case {
+        words: "convert --to=sm e1.rcp",
+        files: &[("e1.rcp", SIX)],
+        status: 0,
+        out: SIX_WRITTEN,
+        note: EMPTY,
+    },
+    Case {
+        words: "convert e1.sm --to rcp",
+        files: &[("e1.sm", SIX_WRITTEN)],
+        status: 0,
+        out: SIX,
+        note: EMPTY,
+    },
+    Case {
+        words: "convert e1.sm --to sm",
+        files: &[("e1.sm", SIX_WRITTEN)],
+        status: 0,
+        out: SIX_WRITTEN,
+        note: EMPTY,
+    },
+    Case {
+        words: "convert ring.rcp --to rcp",
+        files: &[("ring.rcp", RING)],
+        status: 0,
+        out: Lines(&["2 0", "", "1 1 2", "1 1 1"]),
+        note: EMPTY,
+    },
+    Case {
+        words: "convert x.sm --to rcp",
+        files: &[("y.sm", EMPTY)],
+        status: 5,
+        out: EMPTY,
+        note: Lines(&["rcpsp: cannot read x.sm"]),
+    },
+    Case {
+        words: "convert m.sm --to rcp",
+        files: &[(
+            "m.sm",
+            Lines(&[
+                "jobs:1",
+                "- renewable:0",
+                "PRECEDENCE RELATIONS",
+                "1 1 0",
+                "REQUESTS/DURATIONS",
+                "1 1 0",
+                "RESOURCEAVAILABILITIES",
+            ]),
+        )],
+        status: 0,
+        out: ONE_WRITTEN,
+        note: EMPTY,
+    },
+    Case {
+        words: "convert m.sm --to rcp",
+        files: &[(
+            "m.sm",
+            Lines(&[
+                "jobs:1",
+                "- renewable:0",
+                "PRECEDENCE RELATIONS",
+                "1 2 0",
+                "REQUESTS/DURATIONS",
+                "1 1 0",
+                "RESOURCEAVAILABILITIES",
+            ]),
+        )],
+        status: 1,
+        out: EMPTY,
+        note: Lines(&["rcpsp: m.sm: not single mode at 44"]),
+    },
+    Case {
+        words: "convert m.sm --to rcp",
+        files: &[(
+            "m.sm",
+            Lines(&[
+                "jobs:1",
+                "- renewable:0",
+                "- nonrenewable:1",
+                "PRECEDENCE RELATIONS",
+                "1 1 0",
+                "REQUESTS/DURATIONS",
+                "1 1 0",
+                "RESOURCEAVAILABILITIES",
+            ]),
+        )],
+        status: 1,
+        out: EMPTY,
+        note: Lines(&["rcpsp: m.sm: not renewable at 36"]),
+    },
+    Case {
+        words: "convert m.sm --to rcp",
+        files: &[("m.sm", Cut(&["jobs:"]))],
+        status: 1,
+        out: EMPTY,
+        note: Lines(&["rcpsp: m.sm: not a number at 5"]),
+    },
+    Case {
+        words: "convert m.sm --to rcp",
+        files: &[("m.sm", Cut(&["jobs:1", "- renewable:"]))],
+        status: 1,
+        out: EMPTY,
+        note: Lines(&["rcpsp: m.sm: not a number at 19"]),
+    },
+    Case {
+        words: "convert m.sm --to rcp",
+        files: &[(
+            "m.sm",
+            Cut(&["jobs:1", "- renewable:0", "PRECEDENCE RELATION"]),
+        )],
+        status: 1,
+        out: EMPTY,
+        note: Lines(&["rcpsp: m.sm: text ends at 40"]),
+    },
+    Case {
+        words: "convert m.sm --to rcp",
+        files: &[(
+            "m.sm",
+            Cut(&["jobs:1", "- renewable:0", "PRECEDENCE RELATIONS"]),
+        )],
+        status: 1,
+        out: EMPTY,
+        note: Lines(&["rcpsp: m.sm: text ends at 41"]),
+    },
+    Case {
+        words: "convert m.sm --to rcp",
+        files: &[(
+            "m.sm",
+            Cut(&["jobs:1", "- renewable:0", "PRECEDENCE RELATIONS", "1 1"]),
+        )],
+        status: 1,
+        out: EMPTY,
+        note: Lines(&["rcpsp: m.sm: text ends at 45"]),
+    },
+    Case {
+        words: "convert m.sm --to rcp",
+        files: &[(
+            "m.sm",
+            Cut(&[
+                "jobs:1",
+                "- renewable:0",
+                "PRECEDENCE RELATIONS",
+                "1 1 0",
+                "REQUESTS/DURATION",
+            ]),
+        )],
+        status: 1,
+        out: EMPTY,
+        note: Lines(&["rcpsp: m.sm: expected requests at 48"]),
+    },
+    Case {
+        words: "convert m.sm --to rcp",
+        files: &[(
+            "m.sm",
+            Cut(&[
+                "jobs:1",
+                "- renewable:0",
+                "PRECEDENCE RELATIONS",
+                "1 1 0",
+                "REQUESTS/DURATIONS",
+            ]),
+        )],
+        status: 1,
+        out: EMPTY,
+        note: Lines(&["rcpsp: m.sm: text ends at 66"]),
+    },
+    Case {
+        words: "convert m.sm --to rcp",
+        files: &[(
+            "m.sm",
+            Lines(&[
+                "jobs:1",
+                "- renewable:0",
+                "PRECEDENCE RELATIONS",
+                "1 1 0",
+                "REQUESTS/DURATIONS",
+                "1 1 0",
+            ]),
+        )],
+        status: 1,
+        out: EMPTY,
+        note: Lines(&["rcpsp: m.sm: text ends at 73"]),
+    },
+    Case {
+        words: "convert m.sm --to rcp",
+        files: &[(
+            "m.sm",
+            Cut(&[
+                "jobs:1",
+                "- renewable:0",
+                "PRECEDENCE RELATIONS",
+                "1 1 0",
+                "REQUESTS/DURATIONS",
+                "1 1 0",
+                "RESOURCEAVAILABILITIE",
+            ]),
+        )],
+        status: 1,
+        out: EMPTY,
+        note: Lines(&["rcpsp: m.sm: expected availabilities at 73"]),
+    },
+    Case {
+        words: "convert m.sm --to rcp",
+        files: &[(
+            "m.sm",
+            Cut(&[
+                "jobs:1",
+                "- renewable:0",
+                "PRECEDENCE RELATIONS",
+                "1 1 0",
+                "REQUESTS/DURATIONS",
+                "1 1 0",
+                "RESOURCEAVAILABILITIES",
+            ]),
+        )],
+        status: 0,
+        out: ONE_WRITTEN,
+        note: EMPTY,
+    },
+    Case {
+        words: "convert m.sm --to rcp",
+        files: &[(
+            "m.sm",
+            Lines(&[
+                "projects: 2",
+                "jobs:1",
+                "- renewable:0",
+                "PRECEDENCE RELATIONS",
+                "1 1 0",
+                "REQUESTS/DURATIONS",
+                "1 1 0",
+                "RESOURCEAVAILABILITIES",
+            ]),
+        )],
+        status: 1,
+        out: EMPTY,
+        note: Lines(&["rcpsp: m.sm: more than one project at 10"]),
+    },
+    Case {
+        words: "convert m.sm --to rcp",
+        files: &[(
+            "m.sm",
+            Lines(&[
+                "jobs:1",
+                "- renewable:0",
+                "PRECEDENCE RELATIONS",
+                "2 1 0",
+                "REQUESTS/DURATIONS",
+                "1 1 0",
+                "RESOURCEAVAILABILITIES",
+            ]),
+        )],
+        status: 1,
+        out: EMPTY,
+        note: Lines(&["rcpsp: m.sm: wrong job number at 42"]),
+    },
+    Case {
+        words: "convert m.sm --to rcp",
+        files: &[(
+            "m.sm",
+            Cut(&[
+                "jobs:1",
+                "- renewable:0",
+                "PRECEDENCE RELATIONS",
+                "1 1 0",
+                "REQUESTS/DURATIONS",
+                "1 1 0",
+                "RESOURCEAVAILABILITIES",
+                "5",
+            ]),
+        )],
+        status: 1,
+        out: EMPTY,
+        note: Lines(&["rcpsp: m.sm: text after the end at 96"]),
+    },
+    Case {
+        words: "convert m.sm --to rcp",
+        files: &[(
+            "m.sm",
+            Lines(&[
+                "- renewable:0",
+                "PRECEDENCE RELATIONS",
+                "1 1 0",
+                "REQUESTS/DURATIONS",
+                "1 1 0",
+                "RESOURCEAVAILABILITIES",
+            ]),
+        )],
+        status: 1,
+        out: EMPTY,
+        note: Lines(&["rcpsp: m.sm: expected jobs at 14"]),
+    },
+    Case {
+        words: "convert m.sm --to rcp",
+        files: &[(
+            "m.sm",
+            Lines(&[
+                "jobs:1",
+                "PRECEDENCE RELATIONS",
+                "1 1 0",
+                "REQUESTS/DURATIONS",
+                "1 1 0",
+                "RESOURCEAVAILABILITIES",
+            ]),
+        )],
+        status: 1,
+        out: EMPTY,
+        note: Lines(&["rcpsp: m.sm: expected renewable at 7"]),
+    },
+];
+
+#[test]
+fn instances_are_converted_or_refused(rt: HostRuntime) -> Result<(), Fail> {
+    each_comes_true(&rt, rt.alloc(), CASES)
+}

@@ -1,0 +1,4 @@
+pub mod Descent
+pub mod Placed
+pub mod Fault
+pub mod Laws

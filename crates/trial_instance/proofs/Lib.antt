@@ -1,0 +1,4 @@
+pub mod DrawLaws
+mod NumberLaws
+pub mod TrialLaws
+pub mod SoundLaws

@@ -1,0 +1,3 @@
+pub mod Weights
+pub mod RuleLaws
+pub mod SlotLaws

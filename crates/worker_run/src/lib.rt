@@ -1,0 +1,27 @@
+//! Workers that book a whole list together, and a watch that tells how far they have come.
+//!
+//! Each worker has a pass of one running book, in a thread of its own where one can be made. It
+//! draws a ticket, searches the position of it ahead of the bookings and offers what it has found,
+//! and books what is due, until a ticket is past the list. Whatever their steps and in whatever
+//! order these come, the closed book is the serial schedule. One caller, of three workers and a
+//! watch of five looks:
+//!
+//! ```text
+//! let (book, mut passes) = Book::open(alloc, &list, 4)?;
+//! let out = vec![in alloc; 0; book.positions() as usize]?;
+//! let watch = passes.pop().map(|pass| Watch { pass, times: 5, out });
+//! let ran = run_book(&rt, book, passes, &NoGate, watch, &mut note);
+//! let schedule = ran.closed.into_schedule();
+//! ```
+//!
+//! It stands on `ordered_book`, `spec_search` and `report_reader`. It takes no memory, and waits
+//! for nothing but its own threads.
+#![tactic(auto)]
+
+mod line;
+mod run;
+mod watch;
+mod work;
+
+pub use run::{Ran, run_book};
+pub use watch::Watch;
