@@ -1,8 +1,9 @@
 """Runs each command of the console blocks of the given documents, and compares what it prints.
 
-A block is fenced by ```console. A line `$ COMMAND` is run by bash at the top of the repository; the lines up to
-the next command are what it must print, on either stream. A last line `[status N]` names an exit status other
-than 0. Commands other than `./rcpsp ..` and pipes into it are shown, and not run.
+A block is fenced by ```console, or stands between .EX and .EE in a man page. A line `$ COMMAND` is run by bash at the
+top of the repository; the lines up to the next command are what it must print, on either stream. A last line
+`[status N]` names an exit status other than 0. Commands other than `./rcpsp ..` and pipes into it are shown, and not
+run.
 """
 import pathlib
 import re
@@ -12,8 +13,17 @@ import sys
 top = pathlib.Path(__file__).resolve().parent.parent
 subprocess.run(["./rcpsp", "schedule", "examples/e1.rcp"], cwd=top, stdout=subprocess.DEVNULL, check=True)
 passed = failed = 0
+
+
+def blocks_of(name):
+    text = (top / name).read_text()
+    if name.endswith(".1"):
+        return [block.replace("\\-", "-") for block in re.findall(r"^\.EX\n(.*?)^\.EE", text, re.M | re.S)]
+    return re.findall(r"^```console\n(.*?)^```", text, re.M | re.S)
+
+
 for name in sys.argv[1:]:
-    for block in re.findall(r"^```console\n(.*?)^```", (top / name).read_text(), re.M | re.S):
+    for block in blocks_of(name):
         for part in re.split(r"^\$ ", block, flags=re.M)[1:]:
             command, _, wanted = part.partition("\n")
             if "./rcpsp " not in command:

@@ -5,6 +5,7 @@ standard input, the files and both outputs to the top call, and ends with the co
 """
 import os
 import pathlib
+import re
 import subprocess
 import sys
 import tempfile
@@ -27,11 +28,38 @@ makespan 6
 ONE = b"activity   start  finish\n       1       0       5\nmakespan 5\n"
 TRIAL = b"trial 42\nactivities 3\nresources 1\ncritical 8\ncapacity 3\nmakespan 8\nstarts 8\n"
 NOT_UNDERSTOOD = b"rcpsp: words not understood\n"
+SWAPPED = b"""activity   start  finish
+       1       0       0
+       2       0       1
+       3       2       5
+       4       0       2
+       5       1       3
+       6       5       5
+makespan 5
+"""
+
+
+class Live:
+    """What standard error has of so many looks: counts that never fall, and at last that all six are booked."""
+
+    def __init__(self, looks):
+        self.looks = looks
+
+    def __eq__(self, note):
+        counts = re.findall(rb"booked (\d) of 6\n", note)
+        is_whole = note == b"".join(b"booked %s of 6\n" % count for count in counts)
+        return is_whole and len(counts) == self.looks + 1 and counts == sorted(counts) and counts[-1] == b"6"
+
+    def __repr__(self):
+        return f"the lines of {self.looks} looks"
+
 
 # Files that stand in the folder in which the program runs.
 FILES = {
     "e1.rcp": SIX,
     "e1.sm": (EXAMPLES / "e1.sm").read_bytes(),
+    "e2.rcp": (EXAMPLES / "e2.rcp").read_bytes(),
+    "l2.txt": (EXAMPLES / "l2.txt").read_bytes(),
     "ben.csv": (EXAMPLES / "plans" / "ben.csv").read_bytes(),
     "ring.rcp": b"2 0 1 1 2 1 1 1",
     "misfit.rcp": b"1 1 2 1 5 0",
@@ -56,7 +84,20 @@ ROWS = [
     (["check", "e1.rcp", "-"], 0, b"ok makespan 6\n", b"", b"activity,start\n1,0\n2,0\n3,3\n4,3\n5,5\n6,6\n"),
     (["schedule", "full.rcp"], 0, ONE, b"", b""),
     (["schedule", "-", "--format", "rcp"], 0, ONE, b"", FILES["full.rcp"]),
-    # Threads are started.
+    # Workers book the schedule, a list descends, and lines tell of it.
+    (["schedule", "e1.rcp", "--workers", "1"], 0, TABLE, b"", b""),
+    (["schedule", "e1.rcp", "--workers=2"], 0, TABLE, b"", b""),
+    (["schedule", "--workers", "64", "e1.rcp"], 0, TABLE, b"", b""),
+    (["schedule", "e2.rcp", "--list", "l2.txt", "--descend", "1"], 0, SWAPPED, b"", b""),
+    (["schedule", "e1.rcp", "--live", "1"], 0, TABLE, Live(1), b""),
+    (["schedule", "e1.rcp", "--live", "3", "--workers", "1"], 0, TABLE, Live(3), b""),
+    (["schedule", "-", "--format", "rcp", "--live=1000", "--workers=64"], 0, TABLE, Live(1000), SIX),
+    (["schedule", "e2.rcp", "--list", "l2.txt", "--descend=1", "--live=2", "--workers=2"], 0, SWAPPED, Live(2), b""),
+    (["schedule", "misfit.rcp", "--live", "3"], 3, b"", b"rcpsp: activity 1 needs 5 of resource 1, capacity 2\n", b""),
+    (["schedule", "e1.rcp", "--workers", "0"], 2, b"", NOT_UNDERSTOOD, b""),
+    (["schedule", "e1.rcp", "--workers", "65"], 2, b"", NOT_UNDERSTOOD, b""),
+    (["schedule", "e1.rcp", "--live", "1001"], 2, b"", NOT_UNDERSTOOD, b""),
+    (["schedule", "e1.rcp", "--descend", "0"], 2, b"", NOT_UNDERSTOOD, b""),
     (["sample", "e1.rcp", "--seed", "42", "--from", "54", "--workers", "4"], 0, TABLE + b"sample 54\n", b"", b""),
     (["sample", "-", "--format", "rcp", "--all", "--count=2"], 0, b"sample,makespan\n0,6\n1,6\n", b"", SIX),
     (["trial", "--number", "42", "--activities", "3", "--resources", "1"], 0, TRIAL, b"", b""),
@@ -90,6 +131,13 @@ STREAMS = [
     ("closed note", ["schedule", "e1.rcp"], 0, TABLE, b""),
     ("closed note", ["schedule", "ring.rcp"], 1, b"", b""),
     ("full note", ["schedule", "ring.rcp"], 1, b"", b""),
+    ("full note", ["schedule", "e1.rcp", "--live", "1"], 6, TABLE, b""),
+    ("full note", ["schedule", "e1.rcp", "--live", "3", "--workers", "1"], 6, TABLE, b""),
+    ("full note", ["sample", "e1.rcp", "--seed", "42", "--from", "54", "--live", "2"], 6, TABLE + b"sample 54\n", b""),
+    ("closed note", ["schedule", "e1.rcp", "--live", "3"], 6, TABLE, b""),
+    ("unread note", ["schedule", "e1.rcp", "--live", "3"], 6, TABLE, b""),
+    ("unread note", ["schedule", "e1.rcp"], 0, TABLE, b""),
+    ("full output", ["schedule", "e1.rcp", "--workers", "64"], 6, b"", b"rcpsp: cannot write\n"),
     ("closed input", ["schedule", "e1.rcp"], 0, TABLE, b""),
     ("closed input", ["schedule", "-", "--format", "rcp"], 5, b"", b"rcpsp: cannot read -\n"),
 ]
@@ -105,6 +153,9 @@ def run(folder, words, given, what):
         note = os.open("/dev/full", os.O_WRONLY)
     if what == "unread output":
         reader, output = os.pipe()
+        os.close(reader)
+    if what == "unread note":
+        reader, note = os.pipe()
         os.close(reader)
     ran = subprocess.run([PROGRAM, *words], cwd=folder, input=given, stdout=output, stderr=note, timeout=60,
                          preexec_fn=None if closed is None else lambda: os.close(closed))
@@ -124,7 +175,7 @@ def main():
             (pathlib.Path(folder) / name).write_bytes(text)
         for what, words, given, wanted in rows:
             ended = run(folder, words, given, what)
-            if ended != wanted:
+            if wanted != ended:
                 failed += 1
                 print(f"{words}, {what} done to the streams:\nwanted {wanted}\nended  {ended}")
     print(f"program: {len(rows) - failed} passed, {failed} failed")

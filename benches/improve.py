@@ -7,13 +7,10 @@ usage: python3 benches/improve.py [COUNT]      (COUNT instances of each size, 10
 """
 import pathlib
 import random
-import re
-import subprocess
 import sys
 import tempfile
 
-top = pathlib.Path(__file__).resolve().parent.parent
-program = top / "crates/improve_bench/out/improve_bench"
+from measure import bench, instructions, printed
 
 
 def generated(activities, seed):
@@ -101,21 +98,13 @@ class Scheduler:
             assert all(start + self.durations[a] <= starts[b] for b in self.successors[a]), "it follows"
 
 
-def ran(times, path):
+def ran(path):
     """The starts of the first and of the improved schedule, as the program prints them."""
-    lines = subprocess.run([program, str(times), path], capture_output=True, text=True, check=True).stdout.splitlines()
-    return [[int(word) for word in line.split()] for line in lines]
-
-
-def instructions(times, path):
-    command = ["valgrind", "--tool=callgrind", "--callgrind-out-file=/dev/null", program, str(times), path]
-    found = subprocess.run(list(map(str, command)), capture_output=True, text=True, check=True)
-    return int(re.search(r"Collected : (\d+)", found.stderr).group(1))
+    return [[int(word) for word in line.split()] for line in printed([program, 0, path]).splitlines()]
 
 
 count = int(sys.argv[1]) if len(sys.argv) > 1 else 10
-subprocess.run(["rt", "run", "--", "0", "data/late.rcp"], cwd=top / "crates/improve_bench", stdout=subprocess.DEVNULL,
-               check=True)
+program = bench("improve_bench", "0", "data/late.rcp")
 print("activities instances | rounds | per cent off the makespan | shorter | thousand instructions, of one round")
 with tempfile.TemporaryDirectory() as folder:
     path = pathlib.Path(folder) / "i.rcp"
@@ -125,7 +114,7 @@ with tempfile.TemporaryDirectory() as folder:
             lists = generated(activities, 1000 * activities + seed)
             path.write_text(text_of(*lists))
             scheduler = Scheduler(*lists)
-            first, better = ran(0, path)
+            first, better = ran(path)
             assert first == scheduler.serial(scheduler.by_keys(range(activities))), "the first schedule"
             expected, took = scheduler.improved(first)
             assert better == expected, "the improved schedule"
@@ -136,7 +125,8 @@ with tempfile.TemporaryDirectory() as folder:
             gains.append(100 * (before - after) / before)
             shorter += after < before
             if seed < 5:
-                counted.append((instructions(10, path) - instructions(0, path)) / 10 / 1000 / took)
+                ten, none = (instructions([program, times, path]) for times in (10, 0))
+                counted.append((ten - none) / 10 / 1000 / took)
         per_round = sum(counted) / len(counted)
         mean = sum(rounds) / count
         print(f"{activities:10} {count:9} | {mean:4.1f}, at most {max(rounds)} | {sum(gains) / count:5.1f} | "

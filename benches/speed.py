@@ -1,15 +1,12 @@
 """Times whole runs of the proved program on generated instances, and prints one line for each.
 
-usage: python3 benches/speed.py        (after `./rcpsp schedule examples/e1.rcp` has built the program)
+usage: python3 benches/speed.py        (builds the program)
 """
 import pathlib
 import random
-import subprocess
 import tempfile
-import time
 
-top = pathlib.Path(__file__).resolve().parent.parent
-program = top / "crates/rcpsp/out/rcpsp"
+from measure import least, rcpsp
 
 
 def instance(activities, resources, longest, seed):
@@ -26,13 +23,7 @@ def instance(activities, resources, longest, seed):
 
 def best(path, *words, status=0):
     """The least time of five runs, in milliseconds."""
-    times = []
-    for _ in range(5):
-        start = time.perf_counter()
-        ran = subprocess.run([program, "schedule", path, *words], stdout=subprocess.DEVNULL, stderr=subprocess.DEVNULL)
-        times.append(time.perf_counter() - start)
-        assert ran.returncode == status, (path, ran.returncode)
-    return 1000 * min(times)
+    return 1000 * least(5, [program, "schedule", path, *words], status)[0]
 
 
 def junk(size):
@@ -47,6 +38,7 @@ def junk(size):
     }
 
 
+program = rcpsp()
 with tempfile.TemporaryDirectory() as folder:
     for activities, resources, longest in [(30, 4, 10), (120, 4, 10), (120, 4, 120), (1000, 16, 10), (1000, 16, 120)]:
         path = pathlib.Path(folder) / "i.rcp"

@@ -11,9 +11,9 @@ _rcpsp() {
         return
     fi
     case ${COMP_WORDS[1]} in
-    schedule) options="--as --calendar --format --improve --list --rule" ;;
+    schedule) options="--as --calendar --descend --format --improve --list --live --rule --workers" ;;
     parallel) options="--as --calendar --format --list --rule" ;;
-    sample) options="--all --as --count --format --from --improve --seed --workers" ;;
+    sample) options="--all --as --count --format --from --improve --live --seed --workers" ;;
     check) options="--format" ;;
     convert) options="--format --to" ;;
     windows) options="--format" ;;

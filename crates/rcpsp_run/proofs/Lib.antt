@@ -2,8 +2,13 @@ pub mod RunLaws
 pub mod FilelessLaws
 pub mod SummaryLaws
 pub mod StepLaws
+pub mod DescendedLaws
 pub mod CauseLaws
 pub mod CalendarLaws
 pub mod FetchCounts
 pub mod PromiseLaws
 pub mod MemoryLaws
+pub mod LiveLaws
+pub mod RoomLaws
+pub mod EndLaws
+pub mod RefusedLaws

@@ -1,24 +1,25 @@
 -- A run over files and an output in memory, where nothing is to fail, ends as the definition says.
-use Rattle.std.proofs.Common.{◌≡◌, ◌⊎◌, inl, inr, ℕ, ◌+◌, ◌<◌, ◌≤◌, List, [], ◌∷◌, ◌++◌, length, take, All, arith, min, is_some, ◌-◌, ◌^◌, if◌then◌else◌}
-use Rattle.std.proofs.Common.{Option, None, Some, IfSome, IsSome, Result, Ok, Err, IfOk, IsOkAnd, refl, sym, subst, ap, ◌∙◌}
+use Rattle.std.proofs.Common.{◌≡◌, ◌⊎◌, inl, inr, ℕ, ◌+◌, ◌<◌, ◌≤◌, List, [], ◌∷◌, length, All, arith, min, is_some, ◌-◌, ◌^◌, if◌then◌else◌}
+use Rattle.std.proofs.Common.{Option, None, Some, IfSome, IsSome, Result, Ok, Err, IfOk, IsOkAnd, refl, subst}
 use Rattle.std.specs.Option.{option_map}
-use Rattle.std.proofs.lemmas.List.{length-append, length-take}
 use Rattle.std.proofs.lemmas.List.Elements.{All-nil, All-cons, All-weaker}
 use Rattle.rc_instance.specs.Results.{◌>>=◌}
 use Rattle.rc_edge.specs.Faults.{Rose}
 use Rattle.rc_edge.specs.Files.{file_of}
 use Rattle.rc_edge.specs.MemFiles.{contents_of, refused_of, absent_of, faults_of}
 use Rattle.rc_edge.specs.declared.mem_files.MemFiles.{MemFiles}
-use Rattle.rc_edge.specs.Sink.{GainsPrefix}
 use Rattle.rcpsp_words.specs.declared.words.Options.{Options}
 use Rattle.rcpsp_words.specs.Words.{options_of}
+use Rattle.rcpsp_run.specs.declared.answer.LiveLines.{LiveLines}
 use Rattle.rcpsp_run.specs.declared.status.Status.{Status}
 use Rattle.rcpsp_run.specs.declared.status.Status.TheVariants.{WriteFault, Memory}
 use Rattle.rcpsp_run.specs.declared.refusal.Refusal.{Refusal}
 use Rattle.rcpsp_run.specs.Answer.{Answer, ending}
 use Rattle.rcpsp_run.specs.Commands.{command_names, answer_of}
+use Rattle.rcpsp_run.specs.Live.{asked_by, HasRoomFor}
 use Rattle.rcpsp_run.specs.Outcome.{contents, within_limit, names_of, options_outcome, outcome}
-use Rattle.rcpsp_run.specs.Run.{Ends, AreCalm, Agrees, IsCaused, OutputGains, Promises}
+use Rattle.rcpsp_run.specs.Run.{Ends, AreCalm, Agrees, AreOutcomes, GainsPart, IsCaused, LiveRose, NoteGains, OutputGains, Promises}
+use Rattle.rcpsp_run.proofs.RoomLaws.{gained-few, room-keeps}
 
 -- there is a file of each name
 abbrev AreThere : List (List ℕ × List ℕ) → List (List ℕ) → Type 0
@@ -57,10 +58,6 @@ names-there pairs (Some options) answer is =
     (answer_of options.command) answer is in
     contents-there pairs (command_names options.command) given.0 given.1
 
--- equal contents of two options
-pub some_same : {X : Type 0} (x y : X) → Some x ≡ Some y → x ≡ y
-some_same x y same = cc
-
 -- what each value has, a result has where it has a value
 pub if_ok : {X E : Type 0} (result : Result X E) (P : X → Type 0) → ((x : X) → result ≡ Ok x → P x)
     → IfOk result P
@@ -91,54 +88,75 @@ by_status Memory answer agrees written = inr refl
 by_status WriteFault answer agrees written = absurd (written refl)
 by_status status answer agrees written = inl agrees
 
--- an output with room for the text is written
+-- the names that words give, and how often they ask to be told
+abbrev named : List (List ℕ) → List (List ℕ)
+named words = names_of (options_of words)
+
+abbrev asked : List (List ℕ) → Option ℕ
+asked words = asked_by (options_of words)
+
+-- an output with room for the text is written, and so is a note with room for its lines
 pub ends-in_memory : (words : List (List ℕ)) (pairs : List (List ℕ × List ℕ)) (before after : Ends)
     (status : Status) → Promises words before after status
-    → (answer : Answer) (held held' : List ℕ) (room : ℕ)
+    → (answer : Answer) (held held' noted' : List ℕ) (room note_room : ℕ)
     → before.files.told ≡ Some pairs → before.out.held ≡ Some held → after.out.held ≡ Some held'
+    → before.note.held ≡ Some [] → after.note.held ≡ Some noted'
     → ((name : List ℕ) → IsSome (file_of pairs name)
     → Rose (before.files.faults name) (after.files.faults name) → ⊥)
     → (0 < after.out.faults → length held' ≡ room)
+    → (0 < after.note.faults → length noted' ≡ note_room)
     → outcome words pairs ≡ Ok answer → length held + length answer.text < room
+    → HasRoomFor answer.live note_room
     → (status ≡ ending answer) ⊎ (status ≡ Memory)
-ends-in_memory words pairs before after status promises answer held held' room told old new calm
-    full is fits =
+ends-in_memory words pairs before after status promises answer held held' noted' room note_room told
+    old new old_note new_note calm full full_note is fits fits_note =
     by_status status answer (subst (λ given. Agrees given status) is (agrees are_calm)) is_written
   where
-    are_calm : AreCalm (names_of (options_of words)) before.files after.files
+    are_calm : AreCalm (named words) before.files after.files
     are_calm = All-weaker (λ name. IsSome (file_of pairs name))
         (λ name. Rose (before.files.faults name) (after.files.faults name) → ⊥) calm
-        (names_of (options_of words)) (names-there pairs (options_of words) answer is)
+        (named words) (names-there pairs (options_of words) answer is)
 
-    agrees : AreCalm (names_of (options_of words)) before.files after.files
-        → Agrees (outcome words pairs) status
+    agrees : AreCalm (named words) before.files after.files → Agrees (outcome words pairs) status
     agrees = subst (λ t. IfSome t
-        (λ pairs. AreCalm (names_of (options_of words)) before.files after.files
-        → Agrees (outcome words pairs) status)) told promises.agrees
+        (λ pairs. AreCalm (named words) before.files after.files → Agrees (outcome words pairs)
+        status)) told promises.agrees
 
-    is_written : status ≡ WriteFault → ⊥
-    is_written fails =
-        let caused = subst (IsCaused (names_of (options_of words)) before after)
-        fails promises.causes in
-        let output =
-        subst (OutputGains (option_map (outcome words) before.files.told) before.out after.out)
-        fails promises.output in
+    -- the output had no room left
+    out_full : OutputGains (option_map (outcome words) before.files.told) before.out after.out
+        WriteFault → Rose before.out.faults after.out.faults → ⊥
+    out_full output rose =
         let given =
         subst (λ t. OutputGains (option_map (outcome words) t) before.out after.out WriteFault)
         told output in
         let part =
         subst (λ r. IsOkAnd r
-        (λ answer. GainsPrefix before.out.held after.out.held answer.text)) is given in
-        let gained =
-        subst (λ o. IfSome o (λ h. after.out.held ≡ Some (h ++ take part.0 answer.text)))
-        old part.2 in
-        let same : held' ≡ held ++ take part.0 answer.text =
-        some_same held' (held ++ take part.0 answer.text) (sym new ∙ gained) in
-        let few : length held' ≤ length held + length answer.text =
-        omega (
-          arith,
-          ap length same,
-          length-append held (take part.0 answer.text),
-          length-take part.0 answer.text,
-        ) in
-        absurd (omega (arith, few, full (omega (arith, caused.1)), fits))
+        (λ answer. GainsPart before.out after.out answer.text)) is given in
+        let few = gained-few before.out.held after.out.held held held' answer.text old new part.part in
+        absurd (omega (arith, few, full (omega (arith, rose)), fits))
+
+    -- nor had the note
+    note_full : NoteGains (named words) (asked words) (option_map (outcome words) before.files.told)
+        before after WriteFault → LiveRose (asked words) before.note after.note → ⊥
+    note_full notes rose =
+        let outcomes = subst (λ t. AreOutcomes (option_map (outcome words) t) notes.0) told notes.2 in
+        let same : answer.live ≡ notes.0 =
+        subst (λ r. IsOkAnd r (λ answer. answer.live ≡ notes.0)) is outcomes in
+        room-keeps (asked words) notes.0 before.note after.note noted' note_room rose notes.1
+        (subst (λ (l : Option LiveLines). HasRoomFor l note_room) same fits_note) notes.3 old_note
+        new_note full_note
+
+    is_written : status ≡ WriteFault → ⊥
+    is_written fails =
+        let caused = subst (IsCaused (named words) (asked words) before after) fails
+        promises.causes in
+        let output =
+        subst (OutputGains (option_map (outcome words) before.files.told) before.out after.out)
+        fails promises.output in
+        let notes =
+        subst (NoteGains (named words) (asked words) (option_map (outcome words) before.files.told)
+        before after) fails promises.notes in
+        elim caused.1 [
+          | inl rose ↦ out_full output rose
+          | inr live ↦ note_full notes live
+        ]

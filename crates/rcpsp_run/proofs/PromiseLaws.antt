@@ -30,14 +30,14 @@ fetches-refused names before after status refusal is cause most =
     by_refusal Memory cause = most
 
 -- the status has its cause
-pub caused-refused : (names : List (List ℕ)) (before after : Ends) (status : Status) (refusal : Refusal)
+pub caused-refused : (names : List (List ℕ)) (asked : Option ℕ) (before after : Ends) (status : Status) (refusal : Refusal)
     → status ≡ status_of refusal → HasCause names before.files after.files refusal
-    → IsCaused names before after status
-caused-refused names before after status refusal is cause =
-    subst (IsCaused names before after) (sym is) (by_refusal refusal cause)
+    → IsCaused names asked before after status
+caused-refused names asked before after status refusal is cause =
+    subst (IsCaused names asked before after) (sym is) (by_refusal refusal cause)
   where
     by_refusal : (refusal : Refusal) → HasCause names before.files after.files refusal
-        → IsCaused names before after (status_of refusal)
+        → IsCaused names asked before after (status_of refusal)
     by_refusal Words cause = (Words, refl, cause)
     by_refusal (CannotRead name) cause = (CannotRead name, refl, cause)
     by_refusal (TooLarge name) cause = (TooLarge name, refl, cause)

@@ -7,31 +7,9 @@ use Rattle.rcpsp_run.specs.declared.status.Status.{Status}
 use Rattle.rcpsp_run.specs.declared.refusal.Refusal.{Refusal}
 use Rattle.rcpsp_run.specs.declared.refusal.Refusal.TheVariants.{Words, CannotRead, TooLarge, BadText, BadPlan, Cycle, BadList, Misfit, Memory}
 use Rattle.rcpsp_run.specs.Answer.{Answer}
-use Rattle.rcpsp_run.specs.Refusal.{status_of, line_of}
+use Rattle.rcpsp_run.specs.Refusal.{status_of}
 use Rattle.rcpsp_run.specs.Causes.{FilesAt, HasCause, Explains, IsRefusedAt}
-use Rattle.rcpsp_run.specs.Run.{Ends, AreCalm, AgreesInFull, NoteGains, Tells}
-
--- the note gains the line of the refusal
-pub notes-refused : (names : List (List ℕ)) (outcome : Option (Result Answer Refusal)) (before after : Ends)
-    (status : Status) (refusal : Refusal)
-    → status ≡ status_of refusal → HasCause names before.files after.files refusal
-    → Tells before.note after.note (line_of refusal) → IfSome outcome (Explains refusal)
-    → NoteGains names outcome before after status
-notes-refused names outcome before after status refusal is cause tells explains =
-    subst (NoteGains names outcome before after) (sym is) (by_refusal refusal cause tells explains)
-  where
-    by_refusal : (refusal : Refusal) → HasCause names before.files after.files refusal
-        → Tells before.note after.note (line_of refusal) → IfSome outcome (Explains refusal)
-        → NoteGains names outcome before after (status_of refusal)
-    by_refusal Words cause tells explains = (Words, (refl, (cause, (tells, explains))))
-    by_refusal (CannotRead name) cause tells explains = (CannotRead name, (refl, (cause, (tells, explains))))
-    by_refusal (TooLarge name) cause tells explains = (TooLarge name, (refl, (cause, (tells, explains))))
-    by_refusal (BadText name fault) cause tells explains = (BadText name fault, (refl, (cause, (tells, explains))))
-    by_refusal (BadPlan name fault) cause tells explains = (BadPlan name fault, (refl, (cause, (tells, explains))))
-    by_refusal (Cycle ring) cause tells explains = (Cycle ring, (refl, (cause, (tells, explains))))
-    by_refusal (BadList fault) cause tells explains = (BadList fault, (refl, (cause, (tells, explains))))
-    by_refusal (Misfit misfit) cause tells explains = (Misfit misfit, (refl, (cause, (tells, explains))))
-    by_refusal Memory cause tells explains = tells
+use Rattle.rcpsp_run.specs.Run.{AreCalm, AgreesInFull}
 
 -- no name can be refused whose count did not rise
 pub not_refused : (names : List (List ℕ)) (before after : FilesAt) (name : List ℕ)

@@ -4,6 +4,9 @@ pub mod Answer
 pub mod Steps
 pub mod Commands
 pub mod Outcome
+pub mod Sinks
+pub mod Live
+pub mod Ending
 pub mod Causes
 pub mod Run
 pub mod CalendarLaws

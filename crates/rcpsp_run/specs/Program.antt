@@ -8,7 +8,8 @@ use Rattle.rcpsp_run.specs.declared.refusal.Refusal.TheVariants as refusal
 use Rattle.rcpsp_run.specs.declared.status.Status.{Status}
 use Rattle.rcpsp_run.specs.declared.status.Status.TheVariants as status
 use Rattle.rcpsp_run.specs.Refusal.{line_of}
-use Rattle.rcpsp_run.specs.Run.{Ends, EndsStand, Tells, Promises, Unwritten}
+use Rattle.rcpsp_run.specs.Run.{Ends, EndsStand, Promises, Unwritten}
+use Rattle.rcpsp_run.specs.Sinks.{Tells}
 use Rattle.rcpsp_run.specs.Status.{code_of}
 
 -- the options that the words give, where they are words that are understood

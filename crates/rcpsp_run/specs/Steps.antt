@@ -8,4 +8,5 @@ pub mod Plan
 pub mod Schedule
 pub mod Parallel
 pub mod Samples
+pub mod Descent
 pub mod Improvement

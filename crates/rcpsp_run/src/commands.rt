@@ -1,10 +1,11 @@
 //! What each command does: one file each, and the dispatch.
-ghost use Rattle.std.specs.Prelude.{◌≢◌, Err, IfOk};
+ghost use Rattle.std.specs.Prelude.{◌≡◌, ◌≢◌, false, Err, IfOk};
 ghost use Rattle.rcpsp_run.specs.declared.refusal.Refusal.TheVariants.{Words};
 ghost use Rattle.rcpsp_run.specs.Answer.{answer_view};
 ghost use Rattle.rcpsp_run.specs.Commands.{command_names, IsPrintedBy};
 ghost use Rattle.rcpsp_run.specs.Outcome.{command_outcome};
 ghost use Rattle.rcpsp_run.specs.Causes.{Comes};
+ghost use Rattle.rcpsp_run.specs.Live.{live_asked, NotesLive};
 
 mod check;
 mod convert;
@@ -20,7 +21,7 @@ use crate::refusal::Refusal;
 use check::check_answer;
 use convert::convert_answer;
 use parallel::{parallel_answer, parallel_names};
-use rc_edge::Files;
+use rc_edge::{Files, Gate, Sink};
 use rcpsp_words::Command;
 use sample::sample_answer;
 use schedule::{schedule_answer, schedule_names};
@@ -30,12 +31,16 @@ use trial::trial_answer;
 use windows::windows_answer;
 
 /// What a command comes to: its files are fetched, and then their texts are read.
-pub(crate) fn carry_out<R: Threads + Sync, F: Files>(
+pub(crate) fn carry_out<R: Threads + Sync, F: Files, N: Sink + Send, G: Gate + Sync>(
     rt: &R,
     alloc: Global,
     command: &Command,
     files: &mut F,
+    note: &mut N,
+    failed: &mut bool,
+    gate: &G,
 ) -> Result<Answer, Refusal>
+    requires { failed.old ≡ false }
     ensures comes { Comes answer_view (command_names command.now)
         (λ pairs. command_outcome pairs command.now)
         (record {
@@ -54,12 +59,27 @@ pub(crate) fn carry_out<R: Threads + Sync, F: Files>(
         }) result }
     ensures printed { IfOk result (λ answer. IsPrintedBy command.now (answer_view answer)) }
     ensures understood { result ≢ Err Words }
+    ensures noted { NotesLive (λ answer. (answer_view answer).live) (live_asked command.now)
+        (record {
+          held = N.held note.old;
+          faults = N.faults note.old;
+          failing = N.failing note.old;
+          room = N.room note.old;
+        })
+        (record {
+          held = N.held note.new;
+          faults = N.faults note.new;
+          failing = N.failing note.new;
+          room = N.room note.new;
+        }) failed.new result }
+    ensures failing { N.failing note.new ≡ N.failing note.old }
+    ensures room { N.room note.new ≡ N.room note.old }
 {
     match command {
         Command::Schedule(command) => {
             let names = schedule_names(alloc, command)?;
             let texts = fetch(alloc, &names, files)?;
-            schedule_answer(alloc, command, &texts)
+            schedule_answer(rt, alloc, command, &texts, note, failed, gate)
         }
         Command::Parallel(command) => {
             let names = parallel_names(alloc, command)?;
@@ -68,7 +88,7 @@ pub(crate) fn carry_out<R: Threads + Sync, F: Files>(
         }
         Command::Sample(command) => {
             let texts = fetch(alloc, &[command.file.text()], files)?;
-            sample_answer(rt, alloc, command, &texts)
+            sample_answer(rt, alloc, command, &texts, note, failed, gate)
         }
         Command::Check(command) => {
             let names = [command.file.text(), command.plan.text()];
@@ -83,6 +103,6 @@ pub(crate) fn carry_out<R: Threads + Sync, F: Files>(
             let texts = fetch(alloc, &[command.file.text()], files)?;
             windows_answer(alloc, command, &texts)
         }
-        Command::Trial(command) => trial_answer(alloc, command),
+        Command::Trial(command) => trial_answer(rt, alloc, command, gate),
     }
 }

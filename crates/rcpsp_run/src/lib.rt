@@ -16,8 +16,8 @@ pub use in_memory::run_in_memory;
 pub use program::{Given, exit_code};
 pub use rcpsp_words as words;
 pub use rcpsp_words::{
-    Command, Form, Format, Name, Options, Order, Samples, Shown, Size, WordsFault, Workers,
-    read_words,
+    Command, Form, Format, Live, Name, Options, Order, Rounds, Samples, Shown, Size, WordsFault,
+    Workers, read_words,
 };
 pub use refusal::Refusal;
 pub use runs::run;

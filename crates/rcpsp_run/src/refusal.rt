@@ -8,6 +8,7 @@ use rc_instance::limits::MAX_FILE_BYTES;
 use rc_instance::{Memory, Misfit};
 use rcpsp_words::{Name, WordsFault};
 use schedule_check::PlanFault;
+use std::error::Error;
 use std::fmt;
 
 /// Why a run has no output. Its `Display` is what the line on the note says of it.
@@ -82,6 +83,8 @@ impl fmt::Display for Refusal {
         }
     }
 }
+
+impl Error for Refusal {}
 
 impl From<Memory> for Refusal {
     ghost use Rattle.rcpsp_run.specs.declared.refusal.Refusal.TheVariants.{Memory as OutOfMemory};

@@ -1,5 +1,5 @@
 -- What the plain words of a name say.
-use Rattle.std.proofs.Common.{ℕ, Bool, true, false, List, [], ◌∷◌, Option, None, Some, IfSome, refl}
+use Rattle.std.proofs.Common.{◌≡◌, ℕ, Bool, true, false, List, [], ◌∷◌, Option, None, Some, IfSome, refl, sym, subst}
 use Rattle.std.specs.Prelude.{codes, if◌then◌else◌}
 use Rattle.std.specs.Option.{option_map}
 use Rattle.rcpsp_words.specs.declared.table.Kind.{Kind}
@@ -9,11 +9,11 @@ use Rattle.rcpsp_words.specs.declared.values.format.Format.{Format}
 use Rattle.rcpsp_words.specs.declared.words.Options.{Options}
 use Rattle.rcpsp_words.specs.Reading.{◌>>=◌}
 use Rattle.rcpsp_words.specs.Table.{kind_of}
-use Rattle.rcpsp_words.specs.Values.Value.{Value, value_in}
+use Rattle.rcpsp_words.specs.Values.Value.{Value, a_number, value_in}
 use Rattle.rcpsp_words.specs.Values.Name.{are_names}
 use Rattle.rcpsp_words.specs.Values.Format.{format_ending}
 use Rattle.rcpsp_words.specs.Part.{Part, value, awaiting, flag, positional, wrong, is_plain, after_dashes, at_equals, awaited, said_part, named_part, equals_part, dashed_part, free_part, part_of, parts_after, end_part}
-use Rattle.rcpsp_words.specs.Gathered.{given_of, given_value, has_flag, rule_given, form_given, format_given, name_given, file_format}
+use Rattle.rcpsp_words.specs.Gathered.{given_of, given_value, has_flag, number_given, rule_given, form_given, format_given, name_given, file_format, workers_given, rounds_given, live_given}
 use Rattle.rcpsp_words.specs.Commands.{command_of}
 use Rattle.rcpsp_words.specs.Commands.Schedule.{schedule_of}
 use Rattle.rcpsp_words.specs.Words.{options_of}
@@ -74,10 +74,19 @@ formatted : (name : List ℕ) (format : Option Format)
 formatted name (Some format) = named name format (are_names (Some name ∷ None ∷ None ∷ []))
 formatted name None = tt
 
--- the name's part, and the end of the words
+-- the words before the name ask for one worker
+one_worker : (rest : List (List ℕ))
+    → parts_after (codes "schedule") (codes "schedule") (codes "--workers" ∷ codes "1" ∷ rest)
+    ≡ awaiting ∷ value (codes "workers") (a_number 1)
+    ∷ parts_after (codes "schedule") (codes "1") rest
+unfolding parts_after part_of awaited kind_of
+one_worker rest = refl
+
+-- the words before the name, the name's part, and the end of the words
 abbrev SaysOneFile : List ℕ → Part → Type 0
 SaysOneFile name part = (end : Option (List ℕ × Kind))
-    → IfSome (said_by (part ∷ end_part end)) (IsPlain name)
+    → IfSome (said_by (awaiting ∷ value (codes "workers") (a_number 1) ∷ part ∷ end_part end))
+    (IsPlain name)
 
 by_value : (name option : List ℕ) (said : Value) → SaysOneFile name (value option said)
 unfolding given_of schedule_of
@@ -100,13 +109,22 @@ by_nothing name None = tt
 by_nothing name (Some end) = tt
 
 by_name : (name : List ℕ) → SaysOneFile name (positional name)
-unfolding given_of schedule_of file_format format_given given_value rule_given name_given has_flag form_given
+unfolding given_of schedule_of file_format format_given given_value rule_given name_given has_flag form_given number_given workers_given rounds_given live_given
 by_name name None = formatted name (format_ending name)
 by_name name (Some end) = tt
 
-pub plain_words_say : PlainWordsSayOneFile
-unfolding options_of parts_after part_of awaited
-plain_words_say name =
+-- the name is the last of the words
+by_last : (name : List ℕ)
+    → IfSome (said_by (awaiting ∷ value (codes "workers") (a_number 1)
+    ∷ parts_after (codes "schedule") (codes "1") (name ∷ []))) (IsPlain name)
+unfolding parts_after part_of awaited
+by_last name =
     free_kinds (SaysOneFile name) (codes "schedule") name (by_value name) (by_option name)
     (by_flag name) (by_name name) (by_nothing name) (after_dashes name)
     (awaited (codes "schedule") name)
+
+pub plain_words_say : PlainWordsSayOneFile
+unfolding options_of
+plain_words_say name =
+    subst (λ (parts : List Part). IfSome (said_by parts) (IsPlain name))
+    (sym (one_worker (name ∷ []))) (by_last name)

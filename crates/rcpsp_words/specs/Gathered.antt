@@ -11,6 +11,8 @@ use Rattle.rcpsp_words.specs.Reading.{◌>>=◌}
 use Rattle.rcpsp_words.specs.Part.{Part, value, flag, positional, is_wrong}
 use Rattle.rcpsp_words.specs.Values.Format.{format_ending}
 use Rattle.rcpsp_words.specs.Values.Workers.{workers_of}
+use Rattle.rcpsp_words.specs.Values.Rounds.{rounds_of}
+use Rattle.rcpsp_words.specs.Values.Live.{live_of}
 use Rattle.rcpsp_words.specs.Values.Value.{Value, a_number, a_rule, a_form, a_format, a_name, value_view}
 
 -- the values by their options, the flags by name, and the positional words, each in the order
@@ -123,6 +125,14 @@ file_format given file = format_given given (codes "format") >>= format_or_endin
 -- how many workers share the work: the number of `--workers`, or else 4
 unfoldable pub workers_given : Given → Option ℕ
 workers_given given = number_given given (codes "workers") >>= workers_of
+
+-- how many rounds the list descends through: the number of `--descend`, where it is given
+unfoldable pub rounds_given : Given → Option (Option ℕ)
+rounds_given given = number_given given (codes "descend") >>= rounds_of
+
+-- how often the run tells how far it has come: the number of `--live`, where it is given
+unfoldable pub live_given : Given → Option (Option ℕ)
+live_given given = number_given given (codes "live") >>= live_of
 
 -- the only positional word
 abbrev pub only_word : List (List ℕ) → Option (List ℕ)

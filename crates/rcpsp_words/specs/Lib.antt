@@ -5,4 +5,5 @@ pub mod Part
 pub mod Gathered
 pub mod Commands
 pub mod Words
+pub mod WordsFault
 pub mod Many

@@ -14,9 +14,9 @@ use Rattle.rcpsp_words.specs.Part.{parts_after}
 use Rattle.rcpsp_words.specs.Gathered.{Given, given_of, number_given}
 use Rattle.rcpsp_words.specs.Words.{options_of}
 
--- the words by which a file is scheduled alone
+-- the words by which a file is scheduled alone, by one worker
 abbrev pub plain_words : List ℕ → List (List ℕ)
-plain_words name = codes "schedule" ∷ name ∷ []
+plain_words name = codes "schedule" ∷ codes "--workers" ∷ codes "1" ∷ name ∷ []
 
 -- whether a name can be one of many: it is a file's, with an ending that says its format
 abbrev pub is_plain_name : List ℕ → Bool
@@ -45,13 +45,17 @@ many_of words = given_of (parts_after [] [] words) >>= many_given
 abbrev pub many_view : Found → Many
 many_view many = record { names = many.names.items; workers = many.workers }
 
--- what is done with a file that is scheduled alone: by number, as a table, and nothing else
+-- what is done with a file that is scheduled alone: by number and one worker, as a table, and nothing
+-- else
 abbrev pub plain_command : List ℕ → Format → ScheduleCommand
 plain_command name format = record {
   file = name;
   format = format;
   order = Rule Number;
   calendar = None;
+  descend = None;
+  workers = 1;
+  live = None;
   improve = false;
   form = Table;
 }

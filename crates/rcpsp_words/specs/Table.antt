@@ -42,6 +42,7 @@ options =
       kind = kind.Flag;
       commands = codes "schedule" ∷ codes "sample" ∷ [];
     }
+    ∷ record { name = codes "descend"; kind = kind.Number 1 1000; commands = codes "schedule" ∷ [] }
     ∷ record {
       name = codes "as";
       kind = kind.Form;
@@ -51,7 +52,12 @@ options =
     ∷ record {
       name = codes "workers";
       kind = kind.Number 1 64;
-      commands = [] ∷ codes "sample" ∷ codes "trial" ∷ [];
+      commands = [] ∷ codes "schedule" ∷ codes "sample" ∷ codes "trial" ∷ [];
+    }
+    ∷ record {
+      name = codes "live";
+      kind = kind.Number 1 1000;
+      commands = codes "schedule" ∷ codes "sample" ∷ [];
     }
     ∷ record {
       name = codes "seed";

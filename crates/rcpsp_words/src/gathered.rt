@@ -3,11 +3,13 @@ ghost use Rattle.std.specs.Option.{option_map};
 ghost use Rattle.rcpsp_words.specs.Reading.{IsUnderstood, Reads};
 ghost use Rattle.rcpsp_words.specs.Part.{is_wrong, parts_after, part_view};
 ghost use Rattle.rcpsp_words.specs.Values.Value.{value_view};
-ghost use Rattle.rcpsp_words.specs.Gathered.{Adds, given_of, given_by, given_value, has_flag, number_given, rule_given, form_given, format_given, name_given, file_format, workers_given};
+ghost use Rattle.rcpsp_words.specs.Gathered.{Adds, given_of, given_by, given_value, has_flag, number_given, rule_given, form_given, format_given, name_given, file_format, live_given, rounds_given, workers_given};
 
 use crate::part::{Part, awaited};
 use crate::values::form::Form;
 use crate::values::format::Format;
+use crate::values::live::Live;
+use crate::values::rounds::Rounds;
 use crate::values::value::Value;
 use crate::values::workers::Workers;
 use crate::words::WordsFault;
@@ -193,6 +195,18 @@ impl<'w> Gathered<'w> {
         }
     }
 
+    /// How often the run tells how far it has come: the number of `--live`, where it is given.
+    #[tactic(auto, unfolding(crate::specs::Gathered::live_given))]
+    pub(crate) fn live(&self) -> Result<Option<Live>, WordsFault>
+        ensures { IsUnderstood (live_given (given_by self.now)) result }
+    {
+        let Some(number) = self.number("live")? else {
+            return Ok(None);
+        };
+        let live = Live::of(number).ok_or(WordsFault::Undefined)?;
+        Ok(Some(live))
+    }
+
     /// How many workers share the work: the number of `--workers`, or else 4.
     #[tactic(auto, unfolding(crate::specs::Gathered::workers_given))]
     pub(crate) fn workers(&self) -> Result<Workers, WordsFault>
@@ -200,5 +214,14 @@ impl<'w> Gathered<'w> {
     {
         let number = self.number("workers")?;
         Workers::of(number).ok_or(WordsFault::Undefined)
+    }
+
+    /// How many rounds the list descends through: the number of `--descend`, where it is given.
+    #[tactic(auto, unfolding(crate::specs::Gathered::rounds_given))]
+    pub(crate) fn rounds(&self) -> Result<Option<Rounds>, WordsFault>
+        ensures { IsUnderstood (rounds_given (given_by self.now)) result }
+    {
+        let number = self.number("descend")?;
+        Rounds::of(number).ok_or(WordsFault::Undefined)
     }
 }

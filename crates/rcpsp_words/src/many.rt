@@ -27,8 +27,8 @@ pub struct Many {
 /// The files of the batch program's words, the program's name left out, and the number of workers.
 ///
 /// The words are read as [`read_words`](crate::read_words) reads those after a command. The positional
-/// words are the files, from 1 to 100, each a name that `schedule` takes without an option. The only
-/// option is `--workers`, from 1 to 64 and else 4.
+/// words are the files, from 1 to 100, each a name that `schedule` takes without another option. The
+/// only option is `--workers`, from 1 to 64 and else 4.
 #[tactic(auto, unfolding(crate::specs::Many::many_of))]
 pub fn read_many(alloc: Global, words: &[String]) -> Result<Many, WordsFault>
     ensures { Reads many_view (many_of (map string_bytes words.now)) result }
@@ -81,12 +81,14 @@ fn is_plain_name(alloc: Global, name: &str) -> Result<bool, Memory>
     }
 }
 
-/// The words by which a file is scheduled alone: `schedule NAME`.
+/// The words by which a file is scheduled alone, by one worker: `schedule --workers 1 NAME`.
 pub fn plain_words(alloc: Global, name: &str) -> Result<Vec<String>, Memory>
     ensures { IfOk result (λ words. map string_bytes words.items ≡ plain_words name.now) }
 {
-    let mut words = Vec::with_capacity(alloc, 2)?;
+    let mut words = Vec::with_capacity(alloc, 4)?;
     words.push(String::from_str(alloc, "schedule")?)?;
+    words.push(String::from_str(alloc, "--workers")?)?;
+    words.push(String::from_str(alloc, "1")?)?;
     words.push(String::from_str(alloc, name)?)?;
     Ok(words)
 }

@@ -32,7 +32,7 @@ struct Entry {
     commands: &'static [&'static str],
 }
 
-static OPTIONS: [Entry; 15] = [
+static OPTIONS: [Entry; 17] = [
     Entry {
         name: "format",
         kind: Kind::Format,
@@ -61,6 +61,14 @@ static OPTIONS: [Entry; 15] = [
         commands: &["schedule", "sample"],
     },
     Entry {
+        name: "descend",
+        kind: Kind::Number {
+            least: 1,
+            greatest: 1000,
+        },
+        commands: &["schedule"],
+    },
+    Entry {
         name: "as",
         kind: Kind::Form,
         commands: &["schedule", "parallel", "sample"],
@@ -77,7 +85,15 @@ static OPTIONS: [Entry; 15] = [
             least: 1,
             greatest: 64,
         },
-        commands: &["", "sample", "trial"],
+        commands: &["", "schedule", "sample", "trial"],
+    },
+    Entry {
+        name: "live",
+        kind: Kind::Number {
+            least: 1,
+            greatest: 1000,
+        },
+        commands: &["schedule", "sample"],
     },
     Entry {
         name: "seed",

@@ -14,7 +14,7 @@ use std::alloc::{AllocError, Global};
 use std::test::Fail;
 
 // Words, separated by single spaces, and what they say.
-static LINES: [(&str, &str); 89] = [
+static LINES: [(&str, &str); 99] = [
     ("plan e1.rcp", "undefined"),
     ("schedule", "undefined"),
     ("Schedule e1.rcp", "undefined"),
@@ -91,6 +91,13 @@ static LINES: [(&str, &str); 89] = [
     ("schedule e1.rcp --=", "undefined"),
     ("schedule e1.rcp --help", "undefined"),
     ("schedule e1.rcp --workers 0", "undefined"),
+    ("schedule e1.rcp --workers 65", "undefined"),
+    (
+        "schedule --workers=64 e1.rcp --live 1000",
+        "e1.rcp in Rcp by Number as Table with 64 told 1000",
+    ),
+    ("schedule e1.rcp --live 0", "undefined"),
+    ("schedule e1.rcp --live 1001", "undefined"),
     (
         "schedule e1.rcp --improve",
         "e1.rcp in Rcp by Number as Table improved",
@@ -103,6 +110,18 @@ static LINES: [(&str, &str); 89] = [
         "schedule --improve e1.rcp --calendar c.txt --list=l.txt",
         "e1.rcp in Rcp by the list l.txt as Table on c.txt improved",
     ),
+    (
+        "schedule e1.rcp --descend 9",
+        "e1.rcp in Rcp by Number as Table descended 9",
+    ),
+    (
+        "schedule --descend=1000 e1.rcp --improve",
+        "e1.rcp in Rcp by Number as Table descended 1000 improved",
+    ),
+    ("schedule e1.rcp --descend 0", "undefined"),
+    ("schedule e1.rcp --descend 1001", "undefined"),
+    ("schedule e1.rcp --descend", "undefined"),
+    ("schedule e1.rcp --descend 1 --descend 2", "undefined"),
     (
         "schedule e1.rcp --calendar -",
         "e1.rcp in Rcp by Number as Table on -",
@@ -170,14 +189,14 @@ static LINES: [(&str, &str); 89] = [
 ];
 
 // Words of `sample` and `trial`.
-static MADE: [(&str, &str); 27] = [
+static MADE: [(&str, &str); 29] = [
     (
         "sample e1.rcp",
-        "e1.rcp in Rcp by 1 from 0 so many 100 with 4 shows Best { improve: false, form: Table }",
+        "e1.rcp in Rcp by 1 from 0 so many 100 with 4 shows Best { live: None, improve: false, form: Table }",
     ),
     (
         "sample e1.sm --as=csv --improve --seed 18446744073709551615 --count 0001000000",
-        "e1.sm in Sm by 18446744073709551615 from 0 so many 1000000 with 4 shows Best { improve: true, form: Csv }",
+        "e1.sm in Sm by 18446744073709551615 from 0 so many 1000000 with 4 shows Best { live: None, improve: true, form: Csv }",
     ),
     (
         "sample --all e1.rcp --from 4294967295 --count 1 --workers 64",
@@ -195,7 +214,12 @@ static MADE: [(&str, &str); 27] = [
     ("sample e1.rcp --all --improve", "undefined"),
     ("sample e1.rcp --all=yes", "undefined"),
     ("sample e1.rcp --rule lft", "undefined"),
-    ("sample e1.rcp --live 10", "undefined"),
+    (
+        "sample e1.rcp --live 3 --as chart",
+        "e1.rcp in Rcp by 1 from 0 so many 100 with 4 shows Best { live: Some(Live { times: 3 }), improve: false, form: Chart }",
+    ),
+    ("sample e1.rcp --live 1001", "undefined"),
+    ("sample e1.rcp --all --live 3", "undefined"),
     ("sample", "undefined"),
     ("trial", "trial 1 of 100 and 4 by Number with 4"),
     (
@@ -363,8 +387,20 @@ fn said_schedule(alloc: Global, command: &ScheduleCommand) -> Result<String, All
         calendar: &command.calendar,
     };
     let mut text = said.text(alloc)?;
+    if let Some(rounds) = &command.descend {
+        let count = rounds.count();
+        text.push_str(format!(in alloc; " descended {count}")?.as_str())?;
+    }
     if command.improve {
         text.push_str(" improved")?;
+    }
+    let workers = command.workers.count();
+    if workers != 4 {
+        write!(text, " with {workers}")?;
+    }
+    if let Some(live) = &command.live {
+        let times = live.times();
+        write!(text, " told {times}")?;
     }
     Ok(text)
 }
@@ -377,7 +413,7 @@ fn said_sample(alloc: Global, command: &SampleCommand) -> Result<String, AllocEr
     let from = command.samples.from();
     let count = command.samples.count();
     let workers = command.workers.count();
-    let shown = command.shown;
+    let shown = &command.shown;
     format!(in alloc;
         "{file} in {format:?} by {seed} from {from} so many {count} with {workers} shows {shown:?}"
     )

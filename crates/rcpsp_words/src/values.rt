@@ -2,9 +2,11 @@
 
 pub(crate) mod form;
 pub(crate) mod format;
+pub(crate) mod live;
 pub(crate) mod name;
 pub(crate) mod number;
 pub(crate) mod order;
+pub(crate) mod rounds;
 pub(crate) mod rule;
 pub(crate) mod samples;
 pub(crate) mod shown;

@@ -6,6 +6,8 @@ use crate::commands::{Command, command_of};
 use crate::gathered::{Repeated, gather};
 use rc_instance::Memory;
 use std::alloc::{AllocFailed, Global};
+use std::error::Error;
+use std::fmt;
 
 /// What the words of the command line say.
 #[derive(Debug, Drop)]
@@ -23,6 +25,22 @@ pub enum WordsFault {
     /// An allocation was refused.
     Memory,
 }
+
+impl fmt::Display for WordsFault {
+    ghost use Rattle.std.specs.Prelude.{Some};
+    ghost use Rattle.rcpsp_words.specs.WordsFault.{words_fault_words};
+
+    ghost output = { λ fault. Some (words_fault_words fault) };
+
+    fn fmt<W: fmt::Write>(&self, f: &mut fmt::Formatter<W>) -> fmt::Result {
+        f.write_str(match self {
+            WordsFault::Undefined => "words not understood",
+            WordsFault::Memory => "out of memory",
+        })
+    }
+}
+
+impl Error for WordsFault {}
 
 impl From<Memory> for WordsFault {
     ghost use Rattle.rcpsp_words.specs.declared.words.WordsFault.TheVariants.{Memory as OutOfMemory};

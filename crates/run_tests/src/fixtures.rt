@@ -124,6 +124,19 @@ pub(crate) const SIX_CSV: Text = Lines(&[
     "6,6,6",
 ]);
 
+// Its schedule by sample 54 of seed 42, the best of the samples from there on.
+pub(crate) const SIX_BY_SAMPLE: Text = Lines(&[
+    "activity   start  finish",
+    "       1       0       0",
+    "       2       0       3",
+    "       3       3       5",
+    "       4       3       5",
+    "       5       5       6",
+    "       6       6       6",
+    "makespan 6",
+    "sample 54",
+]);
+
 // No capacity in the periods 1 and 2.
 pub(crate) const HOLIDAYS: Text = Lines(&["2", "1 1 0", "1 3 2"]);
 
@@ -196,3 +209,30 @@ pub(crate) const WIDE_CHART: Text = Lines(&[
 
 // One activity of no duration and no resource, as it is written.
 pub(crate) const ONE_WRITTEN: Text = Lines(&["1 0", "", "0 0"]);
+
+// Six other activities, one resource of capacity 2.
+pub(crate) const OTHER_SIX: Text = Lines(&[
+    "6 1",
+    "2",
+    "0 0 3 2 4 5",
+    "1 1 1 3",
+    "3 1 1 6",
+    "2 1 1 6",
+    "2 1 1 6",
+    "0 0 0",
+]);
+
+// A list that does not suit them.
+pub(crate) const SLOW_LIST: Text = Cut(&["1 4 5 2 3 6"]);
+
+// The best that they come to.
+pub(crate) const OTHER_SIX_TABLE: Text = Lines(&[
+    "activity   start  finish",
+    "       1       0       0",
+    "       2       0       1",
+    "       3       1       4",
+    "       4       0       2",
+    "       5       2       4",
+    "       6       4       4",
+    "makespan 4",
+]);

@@ -1,21 +1,9 @@
 use crate::case::{Case, each_comes_true};
-use crate::fixtures::{EMPTY, MISFIT, NOT_UNDERSTOOD, SIX, SIX_TABLE};
-use crate::text::Text::{self, Cut, Lines};
+use crate::fixtures::{
+    EMPTY, MISFIT, NOT_UNDERSTOOD, OTHER_SIX, OTHER_SIX_TABLE, SIX, SIX_TABLE, SLOW_LIST,
+};
+use crate::text::Text::Lines;
 use std::test::Fail;
-
-// Six activities, one resource of capacity 2, and a list that does not suit them.
-const OTHER_SIX: Text = Lines(&[
-    "6 1",
-    "2",
-    "0 0 3 2 4 5",
-    "1 1 1 3",
-    "3 1 1 6",
-    "2 1 1 6",
-    "2 1 1 6",
-    "0 0 0",
-]);
-
-const SLOW_LIST: Text = Cut(&["1 4 5 2 3 6"]);
 
 // Schedules with the flag, and without it.
 static CASES: &[Case] = &[
@@ -39,16 +27,7 @@ static CASES: &[Case] = &[
         words: "schedule e2.rcp --list l.txt --improve",
         files: &[("e2.rcp", OTHER_SIX), ("l.txt", SLOW_LIST)],
         status: 0,
-        out: Lines(&[
-            "activity   start  finish",
-            "       1       0       0",
-            "       2       0       1",
-            "       3       1       4",
-            "       4       0       2",
-            "       5       2       4",
-            "       6       4       4",
-            "makespan 4",
-        ]),
+        out: OTHER_SIX_TABLE,
         note: EMPTY,
     },
     Case {

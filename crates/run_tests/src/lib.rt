@@ -15,15 +15,27 @@ mod check;
 #[cfg(test)]
 mod convert;
 #[cfg(test)]
+mod descend;
+#[cfg(test)]
 mod edges;
 #[cfg(test)]
 mod fixtures;
 #[cfg(test)]
 mod generated;
 #[cfg(test)]
+mod hostile;
+#[cfg(test)]
+mod hostile_cuts;
+#[cfg(test)]
+mod hostile_ends;
+#[cfg(test)]
+mod hostile_gates;
+#[cfg(test)]
 mod improve;
 #[cfg(test)]
 mod limits;
+#[cfg(test)]
+mod live;
 #[cfg(test)]
 mod parallel;
 #[cfg(test)]
@@ -38,3 +50,5 @@ mod trial;
 mod windows;
 #[cfg(test)]
 mod words;
+#[cfg(test)]
+mod workers;

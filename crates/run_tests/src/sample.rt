@@ -1,34 +1,21 @@
 use crate::case::{Case, each_comes_true};
-use crate::fixtures::{EMPTY, LOOP, MISFIT, NOT_UNDERSTOOD, SIX, SIX_CSV, SIX_SM};
-use crate::text::Text::{self, Lines};
+use crate::fixtures::{EMPTY, LOOP, MISFIT, NOT_UNDERSTOOD, SIX, SIX_BY_SAMPLE, SIX_CSV, SIX_SM};
+use crate::text::Text::Lines;
 use std::test::Fail;
-
-// The table of the six activities by sample 54 of seed 42, which is the least of those after it.
-const SIX_BY_54: Text = Lines(&[
-    "activity   start  finish",
-    "       1       0       0",
-    "       2       0       3",
-    "       3       3       5",
-    "       4       3       5",
-    "       5       5       6",
-    "       6       6       6",
-    "makespan 6",
-    "sample 54",
-]);
 
 static CASES: &[Case] = &[
     Case {
         words: "sample e1.rcp --seed 42 --from 54 --count 1",
         files: &[("e1.rcp", SIX)],
         status: 0,
-        out: SIX_BY_54,
+        out: SIX_BY_SAMPLE,
         note: EMPTY,
     },
     Case {
         words: "sample e1.sm --seed 42 --from 54 --count 10 --workers 4",
         files: &[("e1.sm", SIX_SM)],
         status: 0,
-        out: SIX_BY_54,
+        out: SIX_BY_SAMPLE,
         note: EMPTY,
     },
     Case {
@@ -52,7 +39,7 @@ static CASES: &[Case] = &[
         words: "sample e1.rcp --seed 42 --from 54 --count 10 --improve",
         files: &[("e1.rcp", SIX)],
         status: 0,
-        out: SIX_BY_54,
+        out: SIX_BY_SAMPLE,
         note: EMPTY,
     },
     Case {
@@ -99,6 +86,13 @@ static CASES: &[Case] = &[
     },
     Case {
         words: "sample e1.rcp --all --improve",
+        files: &[("e1.rcp", SIX)],
+        status: 2,
+        out: EMPTY,
+        note: NOT_UNDERSTOOD,
+    },
+    Case {
+        words: "sample e1.rcp --all --live 3",
         files: &[("e1.rcp", SIX)],
         status: 2,
         out: EMPTY,

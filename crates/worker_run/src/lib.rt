@@ -2,9 +2,9 @@
 //!
 //! Each worker has a pass of one running book, in a thread of its own where one can be made. It
 //! draws a ticket, searches the position of it ahead of the bookings and offers what it has found,
-//! and books what is due, until a ticket is past the list. Whatever their steps and in whatever
-//! order these come, the closed book is the serial schedule. One caller, of three workers and a
-//! watch of five looks:
+//! and books what is due, until a ticket is past the list; one that is alone only books. Whatever
+//! their steps and in whatever order these come, the closed book is the serial schedule. One caller,
+//! of three workers and a watch of five looks:
 //!
 //! ```text
 //! let (book, mut passes) = Book::open(alloc, &list, 4)?;
@@ -13,6 +13,8 @@
 //! let ran = run_book(&rt, book, passes, &NoGate, watch, &mut note);
 //! let schedule = ran.closed.into_schedule();
 //! ```
+//!
+//! [`book_all`] is the same without a watch.
 //!
 //! It stands on `ordered_book`, `spec_search` and `report_reader`. It takes no memory, and waits
 //! for nothing but its own threads.
@@ -23,5 +25,5 @@ mod run;
 mod watch;
 mod work;
 
-pub use run::{Ran, run_book};
+pub use run::{Ran, book_all, run_book};
 pub use watch::Watch;

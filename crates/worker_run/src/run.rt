@@ -18,16 +18,36 @@ pub struct Ran<'n> {
     pub note_failed: bool,
 }
 
-/// Lets one worker for each of `passes` book all positions, and closes the book. A watch looks at
-/// it meanwhile, and tells on `note` how far it has come.
+/// Lets one worker for each of `passes` book all positions, and closes the book. Nobody watches.
+///
+/// `passes` are all passes of the book as `open` made them. Each worker draws tickets, searches their
+/// positions ahead and offers what it finds, and books what is due; one that is alone only books, in
+/// the caller's thread. The gate is called at `Searched` after each search ahead, and at the points
+/// of `advance`. No memory is taken.
+pub fn book_all<'n, R: Threads + Sync, G: Gate + Sync>(
+    rt: &R,
+    book: Book<'n>,
+    passes: Vec<Pass>,
+    gate: &G,
+) -> Closed<'n>
+    requires fresh { AreFresh book passes.items }
+    requires some { 0 < length passes.items }
+    ensures listing { result.listing ≡ book.entry.listing }
+    ensures booked { length result.booked ≡ book.entry.passes }
+    ensures sum { sum result.booked ≡ count book.entry.listing }
+{
+    let mut passes = passes;
+    work_all(rt, &book, gate, &mut passes);
+    book.close(passes, None)
+}
+
+/// The same beside a watch, where there is one: it looks at the book meanwhile, and tells on `note`
+/// how far it has come.
 ///
 /// `passes` and the watch's pass, in that order, are all passes of the book as `open` made them.
-/// Each worker draws tickets, searches their positions ahead and offers what it finds, and books
-/// what is due. The watch puts as many lines `booked C of N` as it has looks, C never falling, and
-/// after the work the line with C = N; after a put that failed nothing more is put. `note_failed`
-/// says whether one did: then the note's count of faults rose, and else all lines were put whole.
-/// The gate is called at `Searched` after each search ahead, and at the points of `advance`. No
-/// memory is taken.
+/// The watch puts as many lines `booked C of N` as it has looks, C never falling, and after the work
+/// the line with C = N; after a put that failed nothing more is put. `note_failed` says whether one
+/// did: then the note's count of faults rose, and else all lines were put whole. No memory is taken.
 pub fn run_book<'n, R: Threads + Sync, G: Gate + Sync, N: Sink + Send>(
     rt: &R,
     book: Book<'n>,
@@ -48,14 +68,13 @@ pub fn run_book<'n, R: Threads + Sync, G: Gate + Sync, N: Sink + Send>(
     ensures failing { N.failing note.new ≡ N.failing note.old }
     ensures left { N.room note.new ≡ N.room note.old }
 {
-    let mut passes = passes;
     let Some(watch) = watch else {
-        work_all(rt, &book, gate, &mut passes);
         return Ran {
-            closed: book.close(passes, None),
+            closed: book_all(rt, book, passes, gate),
             note_failed: false,
         };
     };
+    let mut passes = passes;
     let Watch {
         mut pass,
         times,

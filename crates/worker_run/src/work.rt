@@ -43,14 +43,17 @@ fn search_and_book<G: Gate>(book: &Book<'_>, pass: &mut Pass, gate: &G)
     }
 }
 
-// The work of one pass: at the end it rests.
-fn work<G: Gate>(book: &Book<'_>, pass: &mut Pass, gate: &G)
+// The work of one pass: at the end it rests. One that is alone only books, since a search ahead would
+// help nobody else.
+fn work<G: Gate>(book: &Book<'_>, pass: &mut Pass, alone: bool, gate: &G)
     requires own { IsFree book.now pass.old }
     ensures own { IsFree book.now pass.new }
     ensures rests { pass.new.view.resting ≡ true }
     ensures goes { GoesOn pass.old.view pass.new.view }
 {
-    search_and_book(book, pass, gate);
+    if !alone {
+        search_and_book(book, pass, gate);
+    }
     advance(book, pass, gate);
 }
 
@@ -66,11 +69,12 @@ pub(crate) fn work_all<R: Threads + Sync, G: Gate + Sync>(
     ensures rest { All (λ pass. pass.view.resting ≡ true) passes.new }
     ensures go { AllGoOn passes.old passes.new }
 {
+    let alone = passes.len() == 1;
     let threads = passes.len().max(1);
     thread::for_each_mut(
         rt,
         passes,
         threads,
-        &|_, pass: &mut Pass| { work(book, pass, gate) },
+        &|_, pass: &mut Pass| { work(book, pass, alone, gate) },
     );
 }

@@ -1,5 +1,5 @@
 -- The command `check`.
-use Rattle.std.specs.Prelude.{◌≡◌, ℕ, List, [], ◌∷◌, Result, Ok, is_some}
+use Rattle.std.specs.Prelude.{◌≡◌, ℕ, List, [], ◌∷◌, None, Result, Ok, is_some}
 use Rattle.rc_instance.specs.Project.{Project}
 use Rattle.rc_instance.specs.Usage.{Booking, last_finish}
 use Rattle.schedule_check.specs.Violation.{first_violation}
@@ -20,6 +20,7 @@ abbrev pub verdict : Project → List Booking → Answer
 verdict project bookings = record {
   text = check_line (first_violation project bookings) (last_finish project bookings);
   violated = is_some (first_violation project bookings);
+  live = None;
 }
 
 -- the instance is read, then the plan

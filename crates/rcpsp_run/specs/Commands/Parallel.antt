@@ -1,5 +1,5 @@
 -- The command `parallel`.
-use Rattle.std.specs.Prelude.{◌≡◌, ℕ, List, [], ◌∷◌, ◌++◌, Result, Ok}
+use Rattle.std.specs.Prelude.{◌≡◌, ℕ, List, ◌∷◌, ◌++◌, Result, Ok}
 use Rattle.rc_instance.specs.Project.{Project}
 use Rattle.rc_instance.specs.Schedule.{IsFeasible}
 use Rattle.activity_net.specs.Ring.{shown_cycle}

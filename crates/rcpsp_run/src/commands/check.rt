@@ -54,6 +54,7 @@ fn verdict(alloc: Global, instance: &Instance, plan: &Plan) -> Result<Answer, Re
         Ok(line) => Ok(Answer {
             text: line.into_bytes(),
             violated,
+            live: None,
         }),
         Err(_) => Err(Refusal::Memory),
     }

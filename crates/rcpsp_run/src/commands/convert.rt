@@ -39,6 +39,7 @@ fn written(alloc: Global, to: Format, instance: &Instance) -> Result<Vec<u8>, Me
     ensures text { IfOk result (λ text. text.items ≡ written to instance.now) }
     ensures limits { IsWithinLimits instance.now }
 {
+    // each reader of an instance tells its limits
     let _ = instance.count();
     match to {
         Format::Sm => write_sm(alloc, instance),

@@ -1,10 +1,15 @@
-ghost use Rattle.std.specs.Prelude.{◌≡◌, ◌≤◌, ◌++◌, length, map, All, IfErr, IfOk, OnOk};
-ghost use Rattle.rc_instance.specs.declared.limits.TheConstants.{MAX_FILE_BYTES};
+ghost use Rattle.std.specs.Prelude.{◌≡◌, ◌≤◌, ◌++◌, false, length, map, All, Ok, IfErr, IfOk, OnOk};
+ghost use Rattle.rc_instance.specs.declared.limits.TheConstants.{MAX_FILE_BYTES, MAX_HORIZON};
 ghost use Rattle.rc_instance.specs.Misfit.{HasNoMisfit};
+ghost use Rattle.rc_instance.specs.Schedule.{makespan, IsFeasible};
 ghost use Rattle.key_sampling.specs.Best.{best_of};
+ghost use Rattle.key_sampling.specs.Samples.{sample_values};
 ghost use Rattle.rcpsp_run.specs.Answer.{answer_view};
 ghost use Rattle.rcpsp_run.specs.Causes.{IsOfTexts, Gives};
-ghost use Rattle.rcpsp_run.specs.Commands.Sample.{sample_names, sample_text, samples_text, sample_answer, PrintsSample};
+ghost use Rattle.rcpsp_run.specs.Commands.Schedule.{text_in};
+ghost use Rattle.rcpsp_run.specs.Commands.Sample.{sample_names, samples_told, sample_answer, PrintsSample};
+ghost use Rattle.rcpsp_run.specs.Live.{live_shown, NotesLive};
+ghost use Rattle.rcpsp_run.specs.Steps.Improvement.{improved_if};
 ghost use Rattle.rcpsp_run.specs.Steps.Samples.{sample_line, values_text};
 
 use crate::answer::Answer;
@@ -14,10 +19,11 @@ use crate::steps::improvement::improved_if;
 use crate::steps::instance::instance_in;
 use crate::steps::misfit::fitting;
 use crate::steps::network::net_of;
-use crate::steps::serial::serial_of;
+use crate::steps::told::{lines_for, told_serial};
 use activity_net::Net;
 use key_sampling::{best_sample, list_of_sample, sample_values};
-use rc_instance::Memory;
+use rc_edge::{Gate, Sink};
+use rc_instance::{Memory, Schedule};
 use rcpsp_words::commands::SampleCommand;
 use rcpsp_words::{Form, Shown};
 use std::alloc::Global;
@@ -26,47 +32,93 @@ use time_windows::Windows;
 
 /// What `sample` makes of the text of its file.
 #[tactic(auto, unfolding(crate::specs::Commands::Sample::sample_answer))]
-pub(crate) fn sample_answer(
-    rt: &(impl Threads + Sync),
+pub(crate) fn sample_answer<R: Threads + Sync, N: Sink + Send, G: Gate + Sync>(
+    rt: &R,
     alloc: Global,
     command: &SampleCommand,
     texts: &[Vec<u8>],
+    note: &mut N,
+    failed: &mut bool,
+    gate: &G,
 ) -> Result<Answer, Refusal>
     requires each { length texts.now ≡ length (sample_names command.now) }
     requires short { All (λ text. length text.items ≤ MAX_FILE_BYTES) texts.now }
+    requires well { failed.old ≡ false }
     ensures answer { Gives answer_view result
         (sample_answer command.now (map (λ text. text.items) texts.now)) }
     ensures printed { IfOk result (λ answer. PrintsSample command.now (answer_view answer)) }
     ensures texts { IfErr result IsOfTexts }
+    ensures noted { NotesLive (λ answer. (answer_view answer).live) (live_shown command.now.shown)
+        (record {
+          held = N.held note.old;
+          faults = N.faults note.old;
+          failing = N.failing note.old;
+          room = N.room note.old;
+        })
+        (record {
+          held = N.held note.new;
+          faults = N.faults note.new;
+          failing = N.failing note.new;
+          room = N.room note.new;
+        }) failed.new result }
+    ensures failing { N.failing note.new ≡ N.failing note.old }
+    ensures room { N.room note.new ≡ N.room note.old }
 {
     let instance = instance_in(alloc, &command.file, command.format, texts)?;
     let net = net_of(alloc, instance)?;
     fitting(net.instance())?;
-    let text = samples_text(rt, alloc, &net, command)?;
-    Ok(Answer::told(text))
+    let answer = samples_told(rt, alloc, &net, command, note, failed, gate)?;
+    Ok(answer)
 }
 
-// What is shown of the samples of an instance without a misfit.
-fn samples_text(
-    rt: &(impl Threads + Sync),
+// What is shown of the samples of an instance without a misfit. The note is told how far the booking of the best one
+// has come, where that is asked for.
+fn samples_told<R: Threads + Sync, N: Sink + Send, G: Gate + Sync>(
+    rt: &R,
     alloc: Global,
     net: &Net,
     command: &SampleCommand,
-) -> Result<Vec<u8>, Memory>
-    requires { HasNoMisfit net.now.project }
-    ensures { IfOk result (λ text. text.items
-        ≡ samples_text command.now.shown net.now.project command.now.seed command.now.samples) }
+    note: &mut N,
+    failed: &mut bool,
+    gate: &G,
+) -> Result<Answer, Refusal>
+    requires fits { HasNoMisfit net.now.project }
+    requires well { failed.old ≡ false }
+    ensures answer { Gives answer_view result (Ok (samples_told command.now net.now.project)) }
+    ensures texts { IfErr result IsOfTexts }
+    ensures noted { NotesLive (λ answer. (answer_view answer).live) (live_shown command.now.shown)
+        (record {
+          held = N.held note.old;
+          faults = N.faults note.old;
+          failing = N.failing note.old;
+          room = N.room note.old;
+        })
+        (record {
+          held = N.held note.new;
+          faults = N.faults note.new;
+          failing = N.failing note.new;
+          room = N.room note.new;
+        }) failed.new result }
+    ensures failing { N.failing note.new ≡ N.failing note.old }
+    ensures room { N.room note.new ≡ N.room note.old }
 {
-    match command.shown {
-        Shown::Best { improve, form } => {
+    match &command.shown {
+        Shown::Best {
+            live,
+            improve,
+            form,
+        } => {
             let sample = best_number(rt, alloc, net, command)?;
-            sample_text(alloc, net, command.seed, sample, improve, form)
+            let list = list_of_sample(alloc, net, command.seed, sample)?;
+            let workers = &command.workers;
+            let schedule = told_serial(rt, alloc, &list, workers, live, note, failed, gate)?;
+            let text = sample_text(alloc, net, schedule, sample, *improve, *form)?;
+            let lines = lines_for(live, net.instance().count());
+            Ok(Answer::told_live(lines, text))
         }
         Shown::All => {
-            let from = command.samples.from();
-            let count = command.samples.count();
-            let values = sample_values(rt, alloc, net, command.seed, from, count)?;
-            values_text(alloc, from, &values)
+            let text = all_text(rt, alloc, net, command)?;
+            Ok(Answer::told(text))
         }
     }
 }
@@ -94,17 +146,18 @@ fn best_number(
 fn sample_text(
     alloc: Global,
     net: &Net,
-    seed: u64,
+    schedule: Schedule,
     sample: u32,
     improve: bool,
     form: Form,
 ) -> Result<Vec<u8>, Memory>
-    requires { HasNoMisfit net.now.project }
+    requires fits { HasNoMisfit net.now.project }
+    requires feasible { IsFeasible net.now.project schedule }
+    requires short { makespan net.now.project schedule ≤ MAX_HORIZON }
     ensures { IfOk result (λ text. text.items
-        ≡ sample_text improve form net.now.project seed sample) }
+        ≡ text_in form net.now.project (improved_if improve net.now.project schedule)
+        ++ sample_line form sample) }
 {
-    let list = list_of_sample(alloc, net, seed, sample)?;
-    let schedule = serial_of(alloc, &list)?;
     let schedule = improved_if(alloc, improve, net, schedule)?;
     let mut text = text_in(alloc, form, net.instance(), &schedule)?;
     push_line(alloc, &mut text, form, sample)?;
@@ -123,6 +176,24 @@ fn push_line(alloc: Global, text: &mut Vec<u8>, form: Form, sample: u32) -> Resu
         }
         Form::Csv => Ok(()),
     }
+}
+
+// The makespan of each sample.
+fn all_text(
+    rt: &(impl Threads + Sync),
+    alloc: Global,
+    net: &Net,
+    command: &SampleCommand,
+) -> Result<Vec<u8>, Memory>
+    requires { HasNoMisfit net.now.project }
+    ensures { IfOk result (λ text. text.items ≡ values_text command.now.samples.from
+        (sample_values net.now.project command.now.seed command.now.samples.from
+        command.now.samples.count)) }
+{
+    let from = command.samples.from();
+    let count = command.samples.count();
+    let values = sample_values(rt, alloc, net, command.seed, from, count)?;
+    values_text(alloc, from, &values)
 }
 
 // A header, and a record for each of these values of the samples from a number on.

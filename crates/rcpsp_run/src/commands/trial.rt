@@ -11,14 +11,21 @@ use crate::refusal::Refusal;
 use crate::steps::serial::serial_of;
 use activity_net::{Net, NetFault};
 use priority_rules::list_of;
+use rc_edge::Gate;
 use rc_instance::{Instance, Memory, Schedule};
 use rcpsp_words::commands::TrialCommand;
 use std::alloc::Global;
+use std::thread::Threads;
 use time_windows::Windows;
 use trial_instance::trial_instance;
 
 /// What `trial` makes of its words.
-pub(crate) fn trial_answer(alloc: Global, command: &TrialCommand) -> Result<Answer, Refusal>
+pub(crate) fn trial_answer<R: Threads + Sync, G: Gate + Sync>(
+    rt: &R,
+    alloc: Global,
+    command: &TrialCommand,
+    gate: &G,
+) -> Result<Answer, Refusal>
     ensures answer { Gives answer_view result (trial_answer command.now) }
     ensures printed { IfOk result (λ answer. PrintsTrial command.now (answer_view answer)) }
     ensures texts { IfErr result IsOfTexts }
@@ -26,7 +33,7 @@ pub(crate) fn trial_answer(alloc: Global, command: &TrialCommand) -> Result<Answ
     let net = net_made(alloc, command)?;
     let windows = Windows::of(alloc, &net)?;
     let list = list_of(alloc, &net, &windows, command.rule)?;
-    let schedule = serial_of(alloc, &list)?;
+    let schedule = serial_of(rt, alloc, &list, &command.workers, gate)?;
     let text = summary(alloc, command.number, &windows, &schedule)?;
     Ok(Answer::told(text))
 }

@@ -70,13 +70,14 @@ fn samples_given(gathered: &Gathered<'_>) -> Result<Samples, WordsFault>
     Samples::of(from, count).ok_or(WordsFault::Undefined)
 }
 
-// What `--all`, `--improve` and `--as` show of them.
+// What `--all`, `--live`, `--improve` and `--as` show of them.
 #[tactic(auto, unfolding(crate::specs::Commands::Sample::shown_given))]
 fn shown_given(gathered: &Gathered<'_>) -> Result<Shown, WordsFault>
     ensures { IsUnderstood (shown_given (given_by gathered.now)) result }
 {
     let all = gathered.flag("all")?;
+    let live = gathered.live()?;
     let improve = gathered.flag("improve")?;
     let form = gathered.form("as")?;
-    shown_of(all, improve, form)
+    shown_of(all, live, improve, form)
 }

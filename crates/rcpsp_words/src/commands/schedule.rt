@@ -5,8 +5,11 @@ ghost use Rattle.rcpsp_words.specs.Commands.Schedule.{schedule_of};
 use crate::gathered::Gathered;
 use crate::values::form::Form;
 use crate::values::format::Format;
+use crate::values::live::Live;
 use crate::values::name::{Name, are_names};
 use crate::values::order::{Order, order_of};
+use crate::values::rounds::Rounds;
+use crate::values::workers::Workers;
 use crate::words::WordsFault;
 use std::alloc::Global;
 
@@ -24,6 +27,15 @@ pub struct ScheduleCommand {
 
     /// The file of the calendar, where the capacities change over time.
     pub calendar: Option<Name>,
+
+    /// How many rounds the list descends through, if it does.
+    pub descend: Option<Rounds>,
+
+    /// How many workers book it.
+    pub workers: Workers,
+
+    /// How often the run tells how many activities are booked, where that is asked for.
+    pub live: Option<Live>,
 
     /// Whether the schedule is improved.
     pub improve: bool,
@@ -47,6 +59,9 @@ pub(crate) fn schedule_of(
     let rule = gathered.rule("rule")?;
     let list = gathered.name("list")?;
     let calendar = gathered.name("calendar")?;
+    let descend = gathered.rounds()?;
+    let workers = gathered.workers()?;
+    let live = gathered.live()?;
     let improve = gathered.flag("improve")?;
     let form = gathered.form("as")?.unwrap_or(Form::Table);
     if !are_names(&[Some(*file), list, calendar]) {
@@ -57,6 +72,9 @@ pub(crate) fn schedule_of(
         format,
         order: order_of(alloc, rule, list)?,
         calendar: Name::of_given(alloc, calendar)?,
+        descend,
+        workers,
+        live,
         improve,
         form,
     })

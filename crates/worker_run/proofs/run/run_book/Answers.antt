@@ -26,7 +26,7 @@ work_and_look_on-failed-requires-clause-workers g c κs within =
     let passes = c.args.passes.items in
     let watch = c.in-Some.watch in
     let fresh = with-watch book passes c.args.watch watch c.in-Some.is c.requires.fresh in
-    subst (All (IsFree book)) (sym c.deref_mut-2.ensures.value)
+    subst (All (IsFree book)) (sym c.deref_mut.ensures.value)
     (front-all (IsFree book) passes watch.pass (fresh-free book (passes ++ watch.pass ∷ []) fresh))
 
 pub work_and_look_on-failed-requires-clause-watch :
@@ -38,19 +38,19 @@ work_and_look_on-failed-requires-clause-watch g c κs within =
     let fresh = with-watch book passes c.args.watch watch c.in-Some.is c.requires.fresh in
     last-is (IsFree book) passes watch.pass (fresh-free book (passes ++ watch.pass ∷ []) fresh)
 
-pub close-requires-2 : goal.close-requires-2
-close-requires-2 g c =
+pub close-requires : goal.close-requires
+close-requires g c =
     let book = c.args.book in
     let passes = c.args.passes.items in
     let watch = c.in-Some.watch in
     let done = c.work_and_look_on-failed in
     let fresh = with-watch book passes c.args.watch watch c.in-Some.is c.requires.fresh in
     let on = subst (λ (old : List PassToken). AllGoOn old done.new.passes)
-    c.deref_mut-2.ensures.value done.ensures.go in
+    c.deref_mut.ensures.value done.ensures.go in
     let long : length done.new.passes ≡ length passes =
-    done.auto.passes ∙ ap length c.deref_mut-2.ensures.value in
+    done.auto.passes ∙ ap length c.deref_mut.ensures.value in
     let back = with_items_is c.args.passes done.new.passes
-    (done.auto.passes ∙ c.deref_mut-2.ensures.len) in
+    (done.auto.passes ∙ c.deref_mut.ensures.len) in
     subst (λ (news : List PassToken). AreAtRest book (news ++ done.new.pass ∷ [])) (sym back)
     (watched-rest book passes done.new.passes watch.pass done.new.pass fresh c.requires.some long
     done.ensures.workers done.ensures.rest on done.ensures.watch

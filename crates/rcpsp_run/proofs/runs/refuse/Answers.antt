@@ -1,0 +1,25 @@
+use Rattle.std.proofs.Common.{inl, subst, ◌∙◌}
+use Rattle.rcpsp_run.specs.Ending.{TellsUnless}
+use Rattle.rcpsp_run.specs.Sinks.{SinkAt}
+use Rattle.rcpsp_run.proofs.runs.refuse.Goals as goal
+
+pub returns-in-Ok-clause-said : goal.returns-in-Ok-clause-said
+returns-in-Ok-clause-said g c =
+    let before : SinkAt = record {
+      held = g.N.Sink.held c.args.note.now;
+      faults = g.N.Sink.faults c.args.note.now;
+      failing = g.N.Sink.failing c.args.note.now;
+      room = g.N.Sink.room c.args.note.now;
+    } in
+    let after : SinkAt = record {
+      held = g.N.Sink.held c.tell_unless.new.note;
+      faults = g.N.Sink.faults c.tell_unless.new.note;
+      failing = g.N.Sink.failing c.tell_unless.new.note;
+      room = g.N.Sink.room c.tell_unless.new.note;
+    } in
+    let line = c.as_bytes.ensures.value ∙ c.in-Ok.ensures.ok in
+    inl (
+      c.status.ensures,
+      subst (TellsUnless c.args.failed before after) line
+          c.tell_unless.ensures.tells,
+    )
