@@ -2,8 +2,8 @@
 
 A block is fenced by ```console, or stands between .EX and .EE in a man page. A line `$ COMMAND` is run by bash at the
 top of the repository; the lines up to the next command are what it must print, on either stream. A last line
-`[status N]` names an exit status other than 0. Commands other than `./rcpsp ..` and pipes into it are shown, and not
-run.
+`[status N]` names an exit status other than 0. Commands other than `./rcpsp ..`, `./rcpsp_many ..`
+and pipes into them are shown, and not run.
 """
 import pathlib
 import re
@@ -11,7 +11,8 @@ import subprocess
 import sys
 
 top = pathlib.Path(__file__).resolve().parent.parent
-subprocess.run(["./rcpsp", "schedule", "examples/e1.rcp"], cwd=top, stdout=subprocess.DEVNULL, check=True)
+for first in (["./rcpsp", "schedule", "examples/e1.rcp"], ["./rcpsp_many", "examples/e1.rcp"]):
+    subprocess.run(first, cwd=top, stdout=subprocess.DEVNULL, check=True)
 passed = failed = 0
 
 
@@ -26,7 +27,7 @@ for name in sys.argv[1:]:
     for block in blocks_of(name):
         for part in re.split(r"^\$ ", block, flags=re.M)[1:]:
             command, _, wanted = part.partition("\n")
-            if "./rcpsp " not in command:
+            if "./rcpsp " not in command and "./rcpsp_many " not in command:
                 continue
             ran = subprocess.run(["bash", "-c", command], cwd=top, text=True, stdin=subprocess.DEVNULL,
                                  stdout=subprocess.PIPE, stderr=subprocess.STDOUT)

@@ -1,4 +1,4 @@
-"""Runs the built program on real files and streams, and compares what it writes and how it ends.
+"""Runs the built programs on real files and streams, and compares what they write and how they end.
 
 No clause speaks of `main`, of real files or of real streams. So this shows that the program gives the words,
 standard input, the files and both outputs to the top call, and ends with the code of its status.
@@ -12,6 +12,7 @@ import tempfile
 
 TOP = pathlib.Path(__file__).resolve().parent.parent
 PROGRAM = TOP / "crates" / "rcpsp" / "out" / "rcpsp"
+MANY = TOP / "crates" / "rcpsp_many" / "out" / "rcpsp_many"
 EXAMPLES = TOP / "examples"
 MOST = 4_194_304
 
@@ -121,6 +122,25 @@ ROWS = [
     (["schedule", "e1.rcp", "--list", b"\xc0\xaf"], 2, b"", NOT_UNDERSTOOD, b""),
 ]
 
+# A row of the batch program: what is done to the streams, the words, the status, standard output and standard error.
+BATCHES = [
+    ("nothing", ["e1.rcp", "a name.rcp"], 0, b"== e1.rcp\n" + TABLE + b"== a name.rcp\n" + TABLE, b""),
+    ("nothing", ["--workers=64", *["e1.rcp"] * 100], 0, (b"== e1.rcp\n" + TABLE) * 100, b""),
+    ("nothing", ["e1.sm", "junk.rcp", "full.rcp"], 1,
+     b"== e1.sm\n" + TABLE + b"== junk.rcp\nrcpsp: junk.rcp: not a number at 0\n== full.rcp\n" + ONE, b""),
+    ("nothing", ["misfit.rcp", "ring.rcp"], 3, b"== misfit.rcp\nrcpsp: activity 1 needs 5 of resource 1, capacity 2\n"
+     b"== ring.rcp\nrcpsp: cycle 1 2 1\n", b""),
+    ("nothing", ["e1.rcp", "none.rcp"], 5, b"", b"rcpsp: cannot read none.rcp\n"),
+    ("nothing", ["e1.rcp", "long.rcp"], 8, b"", b"rcpsp: long.rcp is larger than 4194304 bytes\n"),
+    ("nothing", [], 2, b"", NOT_UNDERSTOOD),
+    ("nothing", ["-"], 2, b"", NOT_UNDERSTOOD),
+    ("nothing", ["e1.rcp"] * 101, 2, b"", NOT_UNDERSTOOD),
+    ("nothing", [b"e1\xff.rcp"], 2, b"", NOT_UNDERSTOOD),
+    ("full output", ["e1.rcp"], 6, b"", b"rcpsp: cannot write\n"),
+    ("closed output", ["none.rcp"], 5, b"", b"rcpsp: cannot read none.rcp\n"),
+    ("closed note", ["none.rcp"], 5, b"", b""),
+]
+
 # A row: what is done to the streams, the words, the status, standard output and standard error.
 STREAMS = [
     ("nothing", ["schedule", "e1.rcp"], 0, TABLE, b""),
@@ -143,7 +163,7 @@ STREAMS = [
 ]
 
 
-def run(folder, words, given, what):
+def run(program, folder, words, given, what):
     """The status and both outputs of one run whose streams are as `what` says."""
     output, note = subprocess.PIPE, subprocess.PIPE
     closed = {"closed input": 0, "closed output": 1, "closed note": 2}.get(what)
@@ -157,7 +177,7 @@ def run(folder, words, given, what):
     if what == "unread note":
         reader, note = os.pipe()
         os.close(reader)
-    ran = subprocess.run([PROGRAM, *words], cwd=folder, input=given, stdout=output, stderr=note, timeout=60,
+    ran = subprocess.run([program, *words], cwd=folder, input=given, stdout=output, stderr=note, timeout=60,
                          preexec_fn=None if closed is None else lambda: os.close(closed))
     for stream in (output, note):
         if stream != subprocess.PIPE:
@@ -167,17 +187,19 @@ def run(folder, words, given, what):
 
 def main():
     subprocess.run(["./rcpsp", "schedule", "examples/e1.rcp"], cwd=TOP, stdout=subprocess.DEVNULL, check=True)
-    rows = [("nothing", words, given, (status, out, note)) for words, status, out, note, given in ROWS]
-    rows += [(what, words, b"", (status, out, note)) for what, words, status, out, note in STREAMS]
+    subprocess.run(["./rcpsp_many", "examples/e1.rcp"], cwd=TOP, stdout=subprocess.DEVNULL, check=True)
+    rows = [(PROGRAM, "nothing", words, given, (status, out, note)) for words, status, out, note, given in ROWS]
+    rows += [(PROGRAM, what, words, b"", (status, out, note)) for what, words, status, out, note in STREAMS]
+    rows += [(MANY, what, words, b"", (status, out, note)) for what, words, status, out, note in BATCHES]
     failed = 0
     with tempfile.TemporaryDirectory() as folder:
         for name, text in FILES.items():
             (pathlib.Path(folder) / name).write_bytes(text)
-        for what, words, given, wanted in rows:
-            ended = run(folder, words, given, what)
+        for program, what, words, given, wanted in rows:
+            ended = run(program, folder, words, given, what)
             if wanted != ended:
                 failed += 1
-                print(f"{words}, {what} done to the streams:\nwanted {wanted}\nended  {ended}")
+                print(f"{program.name} {words}, {what} done to the streams:\nwanted {wanted}\nended  {ended}")
     print(f"program: {len(rows) - failed} passed, {failed} failed")
     sys.exit(1 if failed else 0)
 

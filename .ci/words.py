@@ -2,7 +2,8 @@
 
 The table is the static list of `crates/rcpsp_words/src/table.rt`. In the man page each command has a part `.SS COMMAND ..`,
 whose options stand at the beginning of a line `.B \\-\\-NAME` or `.BI \\-\\-NAME ..`. In the completion each command has a
-line `COMMAND) options="--NAME .."`. The program itself refuses words for help, so these two must be right.
+line `COMMAND) options="--NAME .."`. The program itself refuses words for help, so these two must be right. The options of the
+empty word are those of the batch program, which has a man page of its own and a function in the completion.
 """
 import pathlib
 import re
@@ -15,10 +16,15 @@ completion = (top / "docs/rcpsp.bash").read_text()
 
 wanted = {}
 for name, commands in re.findall(r'Entry \{\s*name: "([a-z]+)",.*?commands: &\[(.*?)\]', table, re.S):
-    for command in re.findall(r'"([a-z]+)"', commands):
+    for command in re.findall(r'"([a-z]*)"', commands):
         wanted.setdefault(command, set()).add(name)
 
+many = (top / "docs/rcpsp_many.1").read_text()
+many_completion = completion.split("_rcpsp_many()")[1]
+
 told = {"the man page": {}, "the completion": {}}
+told["the man page"][""] = set(re.findall(r"^\.BI? \\-\\-([a-z]+)", many, re.M))
+told["the completion"][""] = set(re.findall(r"--([a-z]+)", many_completion))
 for part in re.split(r"^\.SS ", manual.split(".SH COMMANDS")[1].split("\n.SH ")[0], flags=re.M)[1:]:
     told["the man page"][part.split()[0]] = set(re.findall(r"^\.BI? \\-\\-([a-z]+)", part, re.M))
 for command, options in re.findall(r'^ *([a-z]+)\) options="((?:--[a-z]+ ?)*)"', completion, re.M):
@@ -35,8 +41,8 @@ for where, found in told.items():
             print(f"{where} has --{name} of {command}, which the table has not")
         failed += len(lacking) + len(extra)
 first = re.search(r'compgen -W "([a-z ]+)" -- "\$word"\)\)\n    elif', completion)
-if not first or {*first[1].split()} != {*wanted}:
+if not first or {*first[1].split()} != {*wanted} - {""}:
     print("the completion has other commands than the table")
     failed += 1
-print(f"words: {sum(map(len, wanted.values()))} options of {len(wanted)} commands, {failed} differences")
+print(f"words: {sum(map(len, wanted.values()))} options of {len(wanted) - 1} commands and the batch program, {failed} differences")
 sys.exit(1 if failed else 0)

@@ -6,3 +6,4 @@ cd "$(dirname "${BASH_SOURCE[0]}")/.."
 python3 benches/tables.py docs/SPEED.md
 python3 benches/improve.py
 python3 benches/speed.py
+python3 benches/many.py

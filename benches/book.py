@@ -2,12 +2,12 @@
 on a line and against C++ of one thread (`benches/sample.cpp`, not proved, which books on a table of periods).
 
 Prints tables. `counts`: the instructions of a schedule, of twice so many less so many, divided. A schedule through a
-book, or on a fresh line, has its memory counted; C++ and the line hold on to theirs. Callgrind runs one thread at a
-time, so the counts of more workers tell how much work there is, and not how it is shared. `times`: the least of several
-runs by the clock, in microseconds, with the threads that are started. `late`: of how many positions the search ahead
-came too late, since the position was claimed before it ended; of all others the offer stood by then, and was adopted.
-`whole`: one run of `rcpsp schedule`, from the words to the last byte written, against a run that reads and writes the
-same and schedules on a line.
+book by one worker, or on a fresh line, has its memory counted, and that of a book the line on which its starts are
+found; C++ and the line hold on to theirs. `times`: the least of several runs by the clock, in microseconds, with the
+threads that are started. `late`: of how many positions the search ahead
+came too late, since the position was claimed before it ended; the others made their offer in time. `whole`:
+one run of `rcpsp schedule`, from the words to the last byte written, against a run that reads and writes the same and
+schedules on a line.
 
 usage: python3 benches/book.py [TABLE..]       (builds the programs; needs valgrind and g++; `times`, `late` and `whole`
                                                need four free processors)
@@ -33,41 +33,42 @@ def cases(path):
             yield [f"{activities + 2:,}", str(resources), str(longest)], activities + 2, rounds
 
 
-def ways(theirs, path):
+def ways(theirs, path, crews):
     """Each way to so many schedules, as a function of their number."""
     yield lambda rounds: [theirs, "line", rounds, path]
     for mode in ("line", "fresh"):
         yield lambda rounds, mode=mode: [program, mode, rounds, path]
-    for workers in WORKERS:
+    for workers in crews:
         yield lambda rounds, workers=workers: [program, "book", rounds, path, workers]
 
 
-def of_all(measured, theirs, path, rounds):
+def of_all(measured, theirs, path, rounds, crews):
     """What each way takes for one schedule."""
-    return [(measured(way(2 * rounds)) - measured(way(rounds))) / rounds for way in ways(theirs, path)]
+    return [(measured(way(2 * rounds)) - measured(way(rounds))) / rounds for way in ways(theirs, path, crews)]
 
 
-TITLES = ["activities", "resources", "durations to", "C++", "line", "fresh line", *(f"book, {n}" for n in WORKERS)]
+TITLES = ["activities", "resources", "durations to", "C++", "line", "fresh line"]
 
 
 def counts_table(theirs, path):
-    head(*TITLES, "one worker / fresh line", "/ C++")
+    # More workers search ahead as far as they come, which is another number in each run.
+    head(*TITLES, "book", "/ fresh line", "/ C++")
     for cells, _, rounds in cases(path):
-        taken = of_all(instructions, theirs, path, rounds)
+        taken = of_all(instructions, theirs, path, rounds, WORKERS[:1])
         row(*cells, *(f"{figure:,.0f}" for figure in taken), f"{taken[3] / taken[2]:.2f}", f"{taken[3] / taken[0]:.2f}")
 
 
 def times_table(theirs, path):
-    head(*TITLES, "four workers / one")
+    head(*TITLES, *(f"book, {n}" for n in WORKERS), "four workers / one")
     for cells, _, rounds in cases(path):
         many = rounds * (100 if rounds > 10 else 20)
-        taken = of_all(lambda words: 1e6 * least(RUNS, words)[0], theirs, path, many)
+        taken = of_all(lambda words: 1e6 * least(RUNS, words)[0], theirs, path, many, WORKERS)
         row(*cells, *(f"{figure:,.1f}" for figure in taken), f"{taken[5] / taken[3]:.2f}")
 
 
 def late_table(_, path):
     head("activities", "resources", "durations to", *(f"{n} workers: late" for n in WORKERS[1:]),
-         *(f"{n} workers: adopted" for n in WORKERS[1:]))
+         *(f"{n} workers: in time" for n in WORKERS[1:]))
     for cells, positions, rounds in cases(path):
         rounds *= 20
         shares = [int(printed([program, "late", rounds, path, workers])) / (rounds * positions)

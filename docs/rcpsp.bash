@@ -1,4 +1,4 @@
-# Completion of the words of rcpsp for bash: source docs/rcpsp.bash
+# Completion of the words of rcpsp and rcpsp_many for bash: source docs/rcpsp.bash
 _rcpsp() {
     local word=${COMP_WORDS[COMP_CWORD]} before=${COMP_WORDS[COMP_CWORD - 1]} options
     case $before in
@@ -28,3 +28,13 @@ _rcpsp() {
     fi
 }
 complete -o filenames -F _rcpsp rcpsp ./rcpsp
+
+_rcpsp_many() {
+    local word=${COMP_WORDS[COMP_CWORD]}
+    if [[ $word == -* ]]; then
+        COMPREPLY=($(compgen -W "--workers" -- "$word"))
+    else
+        COMPREPLY=($(compgen -f -- "$word"))
+    fi
+}
+complete -o filenames -F _rcpsp_many rcpsp_many ./rcpsp_many

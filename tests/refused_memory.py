@@ -1,5 +1,5 @@
 #!/usr/bin/env python3
-"""Refuses each growth of memory of the built program in turn, over some runs of each command.
+"""Refuses each growth of memory of the built programs in turn, over some runs of each command and of the batch program.
 
 A run then ends as it does with ample memory, or with status 7, nothing on standard output and the one line for want
 of memory, after the live lines that were put before; where the words themselves find no memory, which is in the first
@@ -56,6 +56,7 @@ RUNS = [
     "rcpsp schedule examples/none.rcp",
     "rcpsp schedule examples/e1.rcp --list examples/e1.rcp",
     "rcpsp check examples/e1.rcp examples/e1.rcp",
+    "rcpsp_many --workers 1 examples/e1.rcp examples/ring.rcp",
 ]
 
 

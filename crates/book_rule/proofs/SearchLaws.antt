@@ -1,14 +1,15 @@
 -- One search alone: what is true of it stays true as it goes on, and it never passes a least start.
 use Rattle.std.proofs.Common.{◌≡◌, ℕ, ◌+◌, ◌*◌, ◌<◌, ◌≤◌, ◌⊎◌, inl, inr, true, refl, sym, ◌∙◌, arith}
 use Rattle.std.proofs.lemmas.Bool.{cases_lt}
+use Rattle.std.proofs.lemmas.Bool.Decides.{nat_tests}
 use Rattle.capacity_profile.specs.Lanes.{lane_of, exceeds}
 use Rattle.activity_net.specs.Network.{Listing}
 use Rattle.book_rule.specs.declared.view.Search.{Search}
 use Rattle.book_rule.specs.Listed.{IsBookable, count, activity_at, lasts, begins, least_of, width, need, room, level}
 use Rattle.book_rule.specs.Listed.{before}
 use Rattle.book_rule.specs.Reaches.{none_reached, next_reach}
-use Rattle.book_rule.specs.Searches.{IsSeen, is_chosen, is_full, block_end, after_start, after_word, after_floor}
-use Rattle.book_rule.proofs.ListedLaws.{least_of-room, least_of-after, least_of-low, position-one}
+use Rattle.book_rule.specs.Searches.{IsSeen, known_search, is_chosen, is_full, block_end, after_start, after_word, after_floor}
+use Rattle.book_rule.proofs.ListedLaws.{least_of-own, least_of-room, least_of-after, least_of-low, position-one}
 use Rattle.book_rule.proofs.SearchCases.{reach_cases, chosen-read, chosen-whole, least_after, least_after-from, least_after-end, least_after-most, start_cases, word_cases, floor_cases, full_lane, room_lanes, block_full-each}
 
 -- the tests of the code are those of the definitions
@@ -31,6 +32,11 @@ is_full-exceeds list i p w x demand capacity needs rooms =
 -- a number below the next one is below or at this one
 below_or_at : (n k : ℕ) → n < k + 1 → (n < k) ⊎ (n ≡ k)
 below_or_at n k below = grind arith
+
+-- a search whose start is known has chosen it
+pub known_search-chosen : (list : Listing) (i turn start : ℕ)
+    → is_chosen list (known_search list i turn start) ≡ true
+known_search-chosen list i turn start = grind (arith, nat_tests)
 
 module _ (list : Listing) (bookable : IsBookable list) where
   -- a search whose start is chosen has not passed the least start beside what it has seen
@@ -59,6 +65,21 @@ module _ (list : Listing) (bookable : IsBookable list) where
             let free = least_of-room list bookable e i there p w l late (omega arith) inside lane in
             absurd (omega arith)
       ]
+
+  -- a search whose start is known has seen what is so beside the bookings before its position
+  pub known_search-seen : (i turn start : ℕ) → i < count list → start ≡ begins list i
+      → IsSeen list i (known_search list i turn start)
+  known_search-seen i turn start there is =
+      let own = least_of-own list bookable i in
+      let room = least_of-room list bookable i i there in
+      record {
+        after = λ k j read booked inside same.
+            let ended = least_of-after list bookable i i j k (omega arith) booked there read same in
+            omega arith;
+        periods = λ p w l from below inside lane. room p w l (omega arith) (omega arith) inside
+            lane;
+        words = λ p w l at none. absurd (omega arith);
+      }
 
   -- a search that moved on to a later least start has seen no room from there on
   moved_seen : (g r : ℕ) (s : Search) → s.least ≤ r → IsSeen list g s

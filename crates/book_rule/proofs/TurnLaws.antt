@@ -13,15 +13,15 @@ use Rattle.book_rule.specs.declared.view.Search.{Search}
 use Rattle.book_rule.specs.declared.view.Found.{Found}
 use Rattle.book_rule.specs.declared.view.View.{View}
 use Rattle.book_rule.specs.Listed.{count, begins, least_of}
-use Rattle.book_rule.specs.Searches.{IsSeen, new_search, is_chosen}
+use Rattle.book_rule.specs.Searches.{IsSeen, new_search, known_search, is_chosen}
 use Rattle.book_rule.specs.Layout.{turn_word}
-use Rattle.book_rule.specs.Views.{lets_rest, after_turn, after_begin, after_end, after_claim, adopted_for}
+use Rattle.book_rule.specs.Views.{lets_rest, after_turn, after_begin, after_end, after_claim_with, adopted_for, adopted_search}
 use Rattle.book_rule.specs.Knowledge.{IsOwn}
-use Rattle.book_rule.specs.Told.{Tells, Looked, Begun, Ended, Claimed, IsEarlyAhead, IsLaterTurn}
+use Rattle.book_rule.specs.Told.{Tells, Looked, Begun, Ended, ClaimedWith, Claimed, ClaimedKnown, IsEarlyAhead, IsLaterTurn}
 use Rattle.book_rule.specs.Rule.{Stand, turn_of, shown, start_value, Words, CanStand, SearchFits, Knows, Rule}
 use Rattle.book_rule.proofs.ListedLaws.{begins-ends, least_of-early}
 use Rattle.book_rule.proofs.WordLaws.{starts-other, offers-other, profile-other, floors-other}
-use Rattle.book_rule.proofs.SearchLaws.{chosen-low}
+use Rattle.book_rule.proofs.SearchLaws.{chosen-low, known_search-seen}
 use Rattle.book_rule.proofs.ViewLaws.{set_there, some_after}
 use Rattle.book_rule.proofs.MoveLaws.{GoesOn, goes_nowhere, offers_go_on, kept_go_on, known, written, moved}
 use Rattle.book_rule.proofs.StepLaws.{tells, own_after}
@@ -170,19 +170,31 @@ module _ {S : Type 0} (list : Listing) (s : State S View) (rule : Rule list s) (
       (λ more. awake_after w free refl (omega arith))
       (omega arith)
 
-  -- a pass that holds nothing has claimed the turn
-  turn_claimed : v.hand.holds ≡ false → v.spent ≡ false → t % 2 ≡ 0 → t < 2 * count list
-      → Rule list (written s id (slice_set s.words 0 (t + 1)) (after_claim v t))
-  turn_claimed free unspent even more =
+  -- the adopted start is no later than that of the position that is due
+  adopted_first : t % 2 ≡ 0 → t < 2 * count list → adopted_for v (t / 2) ≤ begins list (t / 2)
+  adopted_first even more =
+      let d = rule.stand in
+      let busy = rule.stands.turn.0 in
+      let idle : d.busy ≡ 0 = omega arith in
+      let half : d.done ≡ t / 2 = omega arith in
+      subst (λ (c : ℕ). adopted_for v c ≤ begins list c) half
+      (adopted-early list d (length rule.chief.gathered) rule.chief.made id v rule.stands idle
+      (omega arith) (rule.each id v here))
+
+  -- a pass that holds nothing has claimed the turn, with this search of its position
+  turn_claimed : (q : Search) → v.hand.holds ≡ false → v.spent ≡ false → t % 2 ≡ 0
+      → t < 2 * count list → q.position ≡ t / 2 → q.ahead ≡ false → q.least ≤ begins list (t / 2)
+      → IsSeen list (t / 2) q
+      → Rule list (written s id (slice_set s.words 0 (t + 1)) (after_claim_with q v t))
+  turn_claimed q free unspent even more position claimed early seen =
       let d = rule.stand in
       let e = taken d id in
-      let w = after_claim v t in
+      let w = after_claim_with q v t in
       let knows = rule.each id v here in
       let busy = rule.stands.turn.0 in
       let idle : d.busy ≡ 0 = omega arith in
       let bare = rule.stands.hand idle in
       let half : d.done ≡ t / 2 = omega arith in
-      let left : d.done < count list = omega arith in
       let on : GoesOn list d e = record {
         done = omega arith;
         begun = omega arith;
@@ -222,17 +234,15 @@ module _ {S : Type 0} (list : Listing) (s : State S View) (rule : Rule list s) (
           own = refl;
           turn = omega arith;
           awake = refl;
-          position = sym half;
-          claimed = refl;
+          position = position ∙ sym half;
+          claimed = claimed;
           added = sym bare.0;
           stored = sym bare.1;
-          early = subst (λ (c : ℕ). adopted_for v c ≤ begins list d.done) half
-              (adopted-early list d (length rule.chief.gathered) rule.chief.made id v rule.stands
-              idle left knows);
-          backed = new_search-seen list d.done (t / 2) false t (adopted_for v (t / 2));
+          early = subst (λ (c : ℕ). q.least ≤ begins list c) (sym half) early;
+          backed = subst (λ (c : ℕ). IsSeen list c q) (sym half) seen;
           unwritten = λ open_yet. bare;
         };
-        search = λ ahead. absurd (true≢false (sym ahead));
+        search = λ ahead. absurd (true≢false (sym ahead ∙ claimed));
         found = knows.found;
         bounds = λ early. knows.bounds (omega arith);
         offers = offers_go_on list rule.bookable d e on v.offered v.adopted knows.offers;
@@ -331,33 +341,42 @@ module _ {S : Type 0} (list : Listing) (slots id : ℕ) (me : Me S View) (own : 
             (own_after list slots id me own (slice_set s.words 0 t) s w here own.unspent next),
       )
 
-  -- and claims the turn that it has seen
-  pub claims : (turn : ℕ) → turn ≡ me.0.seen → turn % 2 ≡ 0 → turn < 2 * count list
+  -- and claims the turn that it has seen, with a search of its position that is early and has
+  -- seen what is so beside the bookings before it
+  claims_with : (turn : ℕ) (search : Listing → View → Search) → turn ≡ me.0.seen → turn % 2 ≡ 0
+      → turn < 2 * count list → (search list me.0).position ≡ turn / 2
+      → (search list me.0).ahead ≡ false
+      → ((s : State S View) (rule : Rule list s) → get_elem? s.views id ≡ some me.0
+      → turn ≡ turn_of rule.stand
+      → ((search list me.0).least ≤ begins list (turn / 2))
+      × IsSeen list (turn / 2) (search list me.0))
       → Allows (Rule list) slots id me turn_word (λ n. either (n == turn) (turn + 1) n)
-      (Tells (Claimed turn) me)
-  claims turn seen even more = λ s rule homes here small.
+      (Tells (ClaimedWith search turn) me)
+  claims_with turn search seen even more position claimed fits = λ s rule homes here small.
       let v = me.0 in
+      let q = search list v in
       let t = slice_index s.words turn_word in
       let now : t ≡ turn_of rule.stand = rule.words.turn in
       let knows = known list s rule id v here in
       dite (ℕ_discrete t turn)
       (λ hit.
-      let w = after_claim v turn in
-      let won = turn_claimed list s rule id v here turn (sym hit
-      ∙ now) free own.unspent even more in
+      let w = after_claim_with q v turn in
+      let at : turn ≡ turn_of rule.stand = sym hit ∙ now in
+      let fit = fits s rule here at in
+      let won = turn_claimed list s rule id v here turn at q free own.unspent even more position
+      claimed fit.0 fit.1 in
       let word : turn + 1 ≡ either (t == turn) (turn + 1) t =
       ap (λ b. either b (turn + 1) t) (sym (eq-eqb t turn hit)) in
       let next = subst (λ (x : ℕ). Rule list (written s id (slice_set s.words 0 x) w)) word won in
-      let told : Claimed turn list v t w = record {
+      let told : ClaimedWith search turn list v t w = record {
         won = λ _. refl;
-        lost =
-            λ miss. absurd (miss hit);
+        lost = λ miss. absurd (miss hit);
       } in (
         w,
         keeps,
         tt,
         next,
-        tells list slots id me own (Claimed turn) t w told
+        tells list slots id me own (ClaimedWith search turn) t w told
             (own_after list slots id me own (slice_set s.words 0 (either (t == turn) (turn + 1) t))
             s w here own.unspent next),
       ))
@@ -369,7 +388,7 @@ module _ {S : Type 0} (list : Listing) (slots id : ℕ) (me : Me S View) (own : 
       ap (λ b. either b (turn + 1) t) (sym (ne_eqb t turn miss)) in
       let next = subst (λ (x : ℕ). Rule list (written s id (slice_set s.words 0 x) w)) word lost in
       let later = later_turn list s rule id v here t now in
-      let told : Claimed turn list v t w = record {
+      let told : ClaimedWith search turn list v t w = record {
         won = λ hit. absurd (miss hit);
         lost = λ _. (refl, omega (arith, later.later), later.within);
       } in (
@@ -377,7 +396,29 @@ module _ {S : Type 0} (list : Listing) (slots id : ℕ) (me : Me S View) (own : 
         keeps,
         tt,
         next,
-        tells list slots id me own (Claimed turn) t w told
+        tells list slots id me own (ClaimedWith search turn) t w told
             (own_after list slots id me own (slice_set s.words 0 (either (t == turn) (turn + 1) t))
             s w here own.unspent next),
+      ))
+
+  -- that search begins at the adopted offer
+  pub claims : (turn : ℕ) → turn ≡ me.0.seen → turn % 2 ≡ 0 → turn < 2 * count list
+      → Allows (Rule list) slots id me turn_word (λ n. either (n == turn) (turn + 1) n)
+      (Tells (Claimed turn) me)
+  claims turn seen even more =
+      claims_with turn (λ _ w. adopted_search w turn) seen even more refl refl (λ s rule here now. (
+        adopted_first list s rule id me.0 here turn now even more,
+        new_search-seen list (turn / 2) (turn / 2) false turn (adopted_for me.0 (turn / 2)),
+      ))
+
+  -- or its start is known
+  pub claims_known : (turn start : ℕ) → start ≡ begins list (turn / 2) → turn ≡ me.0.seen
+      → turn % 2 ≡ 0 → turn < 2 * count list
+      → Allows (Rule list) slots id me turn_word (λ n. either (n == turn) (turn + 1) n)
+      (Tells (ClaimedKnown turn start) me)
+  claims_known turn start is seen even more =
+      claims_with turn (λ l _. known_search l (turn / 2) turn start) seen even more refl refl
+      (λ s rule here now. (
+        omega arith,
+        known_search-seen list rule.bookable (turn / 2) turn start (omega arith) is,
       ))

@@ -1,5 +1,5 @@
 -- The search of a pass: what is true of it, and what each load makes of it.
-use Rattle.std.specs.Prelude.{◌≡◌, ℕ, max, min, ◌+◌, ◌-◌, ◌*◌, ◌<◌, ◌≤◌, ◌&&◌, ◌||◌, Bool, nat_eq, nat_le, nat_lt, if◌then◌else◌}
+use Rattle.std.specs.Prelude.{◌≡◌, ℕ, max, min, ◌+◌, ◌-◌, ◌*◌, ◌<◌, ◌≤◌, ◌&&◌, ◌||◌, Bool, false, nat_eq, nat_le, nat_lt, if◌then◌else◌}
 use Rattle.std.specs.List.{list_all, range_with_len}
 use Rattle.capacity_profile.specs.Lanes.{lane_of}
 use Rattle.activity_net.specs.Network.{Listing}
@@ -26,6 +26,17 @@ new_search i ahead turn from = record {
   read = 0;
   least = from;
   free = none_reached;
+}
+
+-- the search of a position whose start is known: it needs no load
+abbrev pub known_search : Listing → ℕ → ℕ → ℕ → Search
+known_search list i turn start = record {
+  position = i;
+  ahead = false;
+  begun = turn;
+  read = before_count list i;
+  least = start;
+  free = record { periods = lasts list i; words = 0 };
 }
 
 -- whether all direct predecessors were read

@@ -9,9 +9,9 @@ use Rattle.book_rule.specs.declared.view.Kept.{Kept}
 use Rattle.book_rule.specs.declared.view.View.{View}
 use Rattle.std.specs.List.{Contains}
 use Rattle.book_rule.specs.Listed.{count, lasts, begins, least_of, horizon_of, level}
-use Rattle.book_rule.specs.Searches.{is_chosen, block_end}
+use Rattle.book_rule.specs.Searches.{known_search, block_end}
 use Rattle.book_rule.specs.Knowledge.{IsOwn}
-use Rattle.book_rule.specs.Views.{after_turn, after_begin, after_end, after_claim, after_profile, after_start_word, after_add, after_store, after_release, after_ticket, after_offer, after_raise, after_floor_word}
+use Rattle.book_rule.specs.Views.{after_turn, after_begin, after_end, after_claim_with, adopted_search, after_profile, after_start_word, after_add, after_store, after_release, after_ticket, after_offer, after_raise, after_floor_word}
 
 -- the least start of a search is at most the least start beside what is booked by turn t
 pub record IsEarly (list : Listing) (s : Search) (t : ℕ) : Type 0 where
@@ -53,9 +53,18 @@ pub record Ended (list : Listing) (v : View) (t : ℕ) (after : View) : Type 0 w
   pub early : IsEarlyAhead list v.search t
   pub late : least_of list (v.search.begun / 2) v.search.position ≤ v.search.least
 
-pub record Claimed (turn : ℕ) (list : Listing) (v : View) (t : ℕ) (after : View) : Type 0 where
-  pub won : t ≡ turn → after ≡ after_claim v turn
+-- the turn was claimed with a search of its position, or a later one was shown
+pub record ClaimedWith (search : Listing → View → Search) (turn : ℕ) (list : Listing) (v : View)
+    (t : ℕ) (after : View) : Type 0 where
+  pub won : t ≡ turn → after ≡ after_claim_with (search list v) v turn
   pub lost : t ≢ turn → (after ≡ after_turn list v t) × (turn < t) × (t ≤ 2 * count list)
+
+abbrev pub Claimed : ℕ → Listing → View → ℕ → View → Type 0
+Claimed turn list v t after = ClaimedWith (λ _ w. adopted_search w turn) turn list v t after
+
+abbrev pub ClaimedKnown : ℕ → ℕ → Listing → View → ℕ → View → Type 0
+ClaimedKnown turn start list v t after =
+    ClaimedWith (λ l _. known_search l (turn / 2) turn start) turn list v t after
 
 pub record Loaded (p w : ℕ) (list : Listing) (v : View) (x : ℕ) (after : View) : Type 0 where
   pub view : after ≡ after_profile list v p w x

@@ -1,14 +1,14 @@
 -- What each kind of step makes of the view of its pass, as one function from view to view.
-use Rattle.std.specs.Prelude.{◌≡◌, ℕ, max, ◌+◌, ◌*◌, ◌/◌, ◌%◌, ◌<◌, ◌≤◌, ◌||◌, Bool, true, false, List, [], ◌∷◌, ◌++◌, length, slice_index, slice_set, nat_eq, replicate, if◌then◌else◌}
+use Rattle.std.specs.Prelude.{ℕ, max, ◌+◌, ◌*◌, ◌/◌, ◌%◌, ◌||◌, Bool, true, false, List, [], ◌∷◌, ◌++◌, slice_index, slice_set, nat_eq, replicate, if◌then◌else◌}
 use Rattle.std.specs.List.{sum}
-use Rattle.rc_instance.specs.Project.{Project}
-use Rattle.activity_net.specs.Network.{Network, Listing}
+use Rattle.activity_net.specs.Network.{Listing}
 use Rattle.book_rule.specs.declared.view.Hand.{Hand}
 use Rattle.book_rule.specs.declared.view.Kept.{Kept}
+use Rattle.book_rule.specs.declared.view.Search.{Search}
 use Rattle.book_rule.specs.declared.view.View.{View}
 use Rattle.book_rule.specs.Listed.{count, width}
 use Rattle.book_rule.specs.Reaches.{none_reached, next_reach}
-use Rattle.book_rule.specs.Searches.{new_search, after_start, after_word, after_floor}
+use Rattle.book_rule.specs.Searches.{new_search, known_search, after_start, after_word, after_floor}
 
 -- nothing in hand, and a position in hand of which nothing is written yet
 abbrev pub empty_hand : Hand
@@ -47,16 +47,26 @@ after_end list v t = record (after_turn list v t) {
 abbrev pub adopted_for : View → ℕ → ℕ
 adopted_for v i = if nat_eq v.adopted.position i then v.adopted.start else 0
 
--- the even turn t was claimed: its position is in hand, and the search of it begins at the adopted
--- offer
-abbrev pub after_claim : View → ℕ → View
-after_claim v t = record v {
+-- the even turn t was claimed: its position is in hand, with this search of it
+abbrev pub after_claim_with : Search → View → ℕ → View
+after_claim_with search v t = record v {
   seen = t + 1;
   looks = v.looks + 1;
   resting = false;
   hand = full_hand;
-  search = new_search (t / 2) false t (adopted_for v (t / 2));
+  search = search;
 }
+
+-- a search of it that begins at the adopted offer
+abbrev pub adopted_search : View → ℕ → Search
+adopted_search v t = new_search (t / 2) false t (adopted_for v (t / 2))
+
+abbrev pub after_claim : View → ℕ → View
+after_claim v t = after_claim_with (adopted_search v t) v t
+
+-- or one whose start is known
+abbrev pub after_known_claim : Listing → View → ℕ → ℕ → View
+after_known_claim list v t start = after_claim_with (known_search list (t / 2) t start) v t
 
 -- the values that are kept once one of block b is loaded: those of another block are dropped
 abbrev pub kept_in : View → ℕ → List Kept

@@ -12,9 +12,9 @@ use Rattle.book_rule.proofs.ListedLaws.{count-small, width-small, horizon-small}
 use Rattle.book_table.specs.declared.book.Book.TheInside.{Inside as InsideBook}
 use Rattle.book_table.specs.declared.pass.Pass.TheInside.{Inside as InsidePass}
 use Rattle.book_table.specs.Passes.{RunningBook, PassToken, IsPassOf}
-use Rattle.book_table.specs.BookView.{book_of, pass_of, KeepsBook}
+use Rattle.book_table.specs.BookView.{AreNeeds, AreRooms, book_of, pass_of, KeepsBook}
 
--- the numbers of a book are those of its list
+-- the numbers of a book are those of its list, and so are its packed words
 pub record AreSizes (book : InsideBook) (list : Listing) : Type 0 where
   pub bookable : IsBookable list
   pub key : book.table.shared.key ≡ list
@@ -25,6 +25,8 @@ pub record AreSizes (book : InsideBook) (list : Listing) : Type 0 where
   pub few : count list ≤ 1000
   pub narrow : width list ≤ 4
   pub short : horizon_of list ≤ 131070
+  pub needs : AreNeeds list book.needs.items
+  pub rooms : AreRooms list book.rooms.items
 
 pub sizes_are : (fields : InsideBook) (book : RunningBook) → book_of fields ≡ book
     → KeepsBook fields → AreSizes fields book.listing
@@ -39,6 +41,8 @@ sizes_are fields book same keeps =
       few = count-small fields.list.now keeps.bookable;
       narrow = width-small fields.list.now keeps.bookable;
       short = horizon-small fields.list.now keeps.bookable;
+      needs = keeps.needs_are;
+      rooms = keeps.rooms_are;
     })
 
 -- a pass of the book has a seat at its table, and knows of itself what each pass knows

@@ -13,7 +13,8 @@ pub record IsFilled (list : Listing) (value : ℕ → ℕ) (n : ℕ) (table : Li
   pub long : length table ≡ count list
   pub at : (i : ℕ) → i < n → i < count list → slice_index table (activity_at list i - 1) ≡ value i
 
-old_or_last : (i n : ℕ) → i < n + 1 → (i < n) ⊎ (i ≡ n)
+-- what is below the next number is below this one, or is it
+pub old_or_last : (i n : ℕ) → i < n + 1 → (i < n) ⊎ (i ≡ n)
 old_or_last i n below = grind arith
 
 module _ (list : Listing) (feasible : IsFeasibleList (project_of list) list.order)

@@ -2,6 +2,7 @@ pub mod BookLaws
 pub mod LaneLaws
 pub mod FreshLaws
 pub mod FillLaws
+pub mod PackLaws
 pub mod NewLaws
 pub mod ShutLaws
 pub mod ClosedLaws

@@ -6,6 +6,12 @@ use Rattle.activity_net.specs.Network.{Listing}
 use Rattle.book_rule.specs.Listed.{count, width, horizon_of, project_of}
 use Rattle.book_rule.specs.Layout.{place, blocks, word_count}
 
+-- how many words a period has, by the resources of its instance
+pub width_is : (list : Listing) (project : Project) (resources : ℕ) → project ≡ project_of list
+    → resources ≡ resource_count project → (resources + 3) / 4 ≡ width list
+unfolding width
+width_is list project resources same is = ap (λ k. (k + 3) / 4) (is ∙ ap resource_count same)
+
 -- they are those of its list
 pub record AreNumbers (list : Listing) (positions words periods : ℕ) : Type 0 where
   pub count_is : positions ≡ count list
@@ -16,11 +22,11 @@ pub numbers_are : (list : Listing) (project : Project) (positions resources peri
     → IsFeasibleList (project_of list) list.order → project ≡ project_of list
     → positions ≡ activity_count project → resources ≡ resource_count project
     → periods ≡ horizon project → AreNumbers list positions ((resources + 3) / 4) periods
-unfolding width horizon_of
+unfolding horizon_of
 numbers_are list project positions resources periods feasible same count_is resources_are
     horizon_is = record {
       count_is = count_is ∙ (ap activity_count same ∙ sym feasible.count);
-      width_is = ap (λ k. (k + 3) / 4) (resources_are ∙ ap resource_count same);
+      width_is = width_is list project resources same resources_are;
       horizon_is = horizon_is ∙ ap horizon same;
     }
 

@@ -1,15 +1,22 @@
-// The steps whose position, period or block is told to their play by the call.
-ghost use Rattle.std.specs.Prelude.{◌≡◌, ◌≢◌, ℕ, ◌+◌, ◌*◌, ◌/◌, ◌%◌, ◌<◌, ◌≤◌, true, false, slice_index};
-ghost use Rattle.book_rule.specs.Listed.{count, width, horizon_of};
+// The steps whose position, start, period or block is told to their play by the call.
+ghost use Rattle.std.specs.Prelude.{◌≡◌, ◌≢◌, ℕ, ◌+◌, ◌*◌, ◌/◌, ◌%◌, ◌<◌, ◌≤◌, true, false, slice_index, IfOk, IfErr};
+ghost use Rattle.book_rule.specs.Listed.{count, begins, width, horizon_of};
 ghost use Rattle.book_rule.specs.Layout.{blocks};
-ghost use Rattle.book_rule.specs.Views.{after_raise};
+ghost use Rattle.book_rule.specs.Views.{after_turn, after_known_claim, after_raise};
 ghost use Rattle.book_rule.specs.Told.{Begun, Loaded, StartLoaded, OfferLoaded, FloorLoaded};
 ghost use Rattle.book_table.specs.Passes.{IsPassOf, IsFree};
 
 use crate::book::Book;
 use crate::pass::Pass;
-use crate::plays::{Aim, Begin, LoadFloor, LoadOffer, LoadProfile, LoadStart, RaiseOffer};
-use book_rule::{Offer, Reach, Search};
+use crate::plays::{
+    Aim, Begin, ClaimKnown, LoadFloor, LoadOffer, LoadProfile, LoadStart, RaiseOffer,
+};
+use book_rule::{Hand, Offer, Reach, Search};
+
+const NONE: Reach = Reach {
+    periods: 0,
+    words: 0,
+};
 
 impl<'n> Book<'n> {
     pub(crate) fn begin<A: Aim>(&self, pass: &mut Pass, position: u32) -> u64
@@ -28,12 +35,51 @@ impl<'n> Book<'n> {
             begun: turn,
             read: 0,
             least: 0,
+            free: NONE,
+        };
+        turn
+    }
+
+    pub(crate) fn claim_at<A: Aim>(&self, pass: &mut Pass, turn: u64, start: u32) -> Result<(), u64>
+        requires own { IsFree self.now pass.old }
+        requires seen { turn ≡ pass.old.view.seen }
+        requires even { turn % 2 ≡ 0 }
+        requires more { turn < 2 * count self.now.listing }
+        requires known { start ≡ begins self.now.listing (turn / 2) }
+        requires aim { start ≡ A.place }
+        ensures own { IsPassOf self.now pass.new }
+        ensures won { IfOk result (λ _. pass.new.view ≡ after_known_claim self.now.listing pass.old.view turn start) }
+        ensures lost { IfErr result (λ v. (pass.new.view ≡ after_turn self.now.listing pass.old.view v) × (turn < v) × (v ≤ 2 * count self.now.listing)) }
+    {
+        let found = self
+            .table
+            .shared
+            .compare_exchange::<ClaimKnown<A>>(&mut pass.seat, 0, turn, turn + 1);
+        if found != turn {
+            pass.seen = found;
+            pass.resting |= self.lets_rest(found);
+            return Err(found);
+        }
+        let position = (turn / 2) as u32;
+        pass.seen = turn + 1;
+        pass.resting = false;
+        pass.hand = Hand {
+            holds: true,
+            added: NONE,
+            stored: false,
+        };
+        pass.search = Search {
+            position,
+            ahead: false,
+            begun: turn,
+            read: self.before_count(position),
+            least: start,
             free: Reach {
-                periods: 0,
+                periods: self.lasts(position),
                 words: 0,
             },
         };
-        turn
+        Ok(())
     }
 
     pub(crate) fn profile<A: Aim>(&self, pass: &mut Pass, period: u32, index: u32) -> u64

@@ -23,6 +23,10 @@ pub struct Book<'n> {
     pub(crate) horizon: u32,
     // The position of each activity, in order of number.
     pub(crate) places: Vec<u32>,
+    // What each position needs, packed, word after word; and how much there is in every period: no
+    // word where some capacity changes.
+    pub(crate) needs: Vec<u64>,
+    pub(crate) rooms: Vec<u64>,
     // How many bookings each pass has made, once the book is closed, and its schedule.
     pub(crate) counts: Vec<u32>,
     pub(crate) schedule: Schedule,

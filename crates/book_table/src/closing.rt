@@ -43,6 +43,8 @@ impl<'n> Book<'n> {
             words,
             horizon: _,
             places: _,
+            needs: _,
+            rooms: _,
             counts,
             mut schedule,
         } = self;

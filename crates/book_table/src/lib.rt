@@ -15,6 +15,7 @@ mod closed;
 mod closing;
 mod moves;
 mod opening;
+mod packed;
 mod pass;
 mod plays;
 mod rule;

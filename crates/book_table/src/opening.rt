@@ -8,6 +8,7 @@ ghost use Rattle.book_table.specs.Passes.{AreFresh, fresh_pass};
 ghost use Rattle.book_table.specs.BookView.{ArePlaces};
 
 use crate::book::Book;
+use crate::packed::{needs_of, rooms_of};
 use crate::pass::Pass;
 use crate::plays::Part;
 use activity_net::FeasibleList;
@@ -55,6 +56,8 @@ impl<'n> Book<'n> {
         let words = (instance.resources() + 3) / 4;
         let horizon = instance.horizon();
         let places = places_of(alloc, list)?;
+        let needs = needs_of(alloc, list)?;
+        let rooms = rooms_of(alloc, list)?;
         let counts = vec![in alloc; 0; passes as usize]?;
         let schedule = Schedule::zero(alloc, positions)?;
         let offered = vec![in alloc; 0; positions as usize]?;
@@ -68,6 +71,8 @@ impl<'n> Book<'n> {
             words,
             horizon,
             places,
+            needs,
+            rooms,
             counts,
             schedule,
         };

@@ -1,13 +1,14 @@
 // What each kind of step tells. These types are for the proofs alone.
 ghost use Rattle.std.specs.Prelude.{ℕ};
 ghost use Rattle.book_rule.specs.Views.{after_split, split_off, after_join, spent_view};
-ghost use Rattle.book_rule.specs.Told.{Tells, Looked, Begun, Ended, Claimed, Loaded, StartLoaded, Added, Stored, Released, Drew, OfferLoaded, Raised, FloorLoaded, FloorStored};
+ghost use Rattle.book_rule.specs.Told.{Tells, Looked, Begun, Ended, Claimed, ClaimedKnown, Loaded, StartLoaded, Added, Stored, Released, Drew, OfferLoaded, Raised, FloorLoaded, FloorStored};
 
 use atomic_table::{Join, Play, Split};
 use book_rule::View;
 use std::marker::{Brand, PhantomData};
 
-// The numbers of a call that its step does not show: the position, the period or the block, and the index of a word.
+// The numbers of a call that its step does not show: the position, the start, the period or the block, and the index of
+// a word.
 pub trait Aim {
     ghost place: { ℕ };
 
@@ -44,6 +45,14 @@ pub(crate) struct Claim;
 
 impl Play<(), View> for Claim {
     ghost then = { λ st me x after. Tells (Claimed st.first) me x after };
+}
+
+pub(crate) struct ClaimKnown<A> {
+    aim: PhantomData<A>,
+}
+
+impl<A: Aim> Play<(), View> for ClaimKnown<A> {
+    ghost then = { λ st me x after. Tells (ClaimedKnown st.first A.place) me x after };
 }
 
 pub(crate) struct LoadProfile<A> {

@@ -1,7 +1,6 @@
 // What a book knows of its list: how long its positions last, what they need, and where its words stand.
-ghost use Rattle.std.specs.Prelude.{◌≡◌, ℕ, ◌+◌, ◌*◌, ◌<◌, ◌≤◌, nat_lt, if◌then◌else◌};
-ghost use Rattle.rc_instance.specs.Project.{IsActivity, duration, demand, capacity_at, resource_count};
-ghost use Rattle.rc_instance.specs.Misfit.{HasNoMisfit};
+ghost use Rattle.std.specs.Prelude.{◌≡◌, ℕ, ◌+◌, ◌*◌, ◌<◌, ◌≤◌};
+ghost use Rattle.rc_instance.specs.Project.{IsActivity};
 ghost use Rattle.capacity_profile.specs.Lanes.{lane_of};
 ghost use Rattle.book_rule.specs.Listed.{count, width, horizon_of, activity_at, project_of, lasts, before_count, before, need, room, IsBookable};
 ghost use Rattle.book_rule.specs.Layout.{place, profile_word, floor_word, offer_word, blocks, word_count};
@@ -9,8 +8,7 @@ ghost use Rattle.book_rule.specs.Searches.{block_end};
 ghost use Rattle.book_rule.specs.Views.{lets_rest};
 
 use crate::book::Book;
-use capacity_profile::pack;
-use rc_instance::Instance;
+use crate::packed::room_word;
 
 impl<'n> Book<'n> {
     /// How many positions there are.
@@ -116,15 +114,7 @@ impl<'n> Book<'n> {
         requires index { index < width self.now.listing }
         ensures { (l : ℕ) → l < 4 → lane_of result l ≡ need self.now.listing position index l }
     {
-        let instance = self.list.net().instance();
-        let activity = self.activity(position);
-        let first = 4 * index;
-        pack([
-            demand_of(instance, activity, first),
-            demand_of(instance, activity, first + 1),
-            demand_of(instance, activity, first + 2),
-            demand_of(instance, activity, first + 3),
-        ])
+        self.needs[place(self.words, position, index)]
     }
 
     // How much there is in a period of the resources in a word.
@@ -132,14 +122,10 @@ impl<'n> Book<'n> {
         requires { index < width self.now.listing }
         ensures { (l : ℕ) → l < 4 → lane_of result l ≡ room self.now.listing index l period }
     {
-        let instance = self.list.net().instance();
-        let first = 4 * index;
-        pack([
-            capacity_of(instance, first, period),
-            capacity_of(instance, first + 1, period),
-            capacity_of(instance, first + 2, period),
-            capacity_of(instance, first + 3, period),
-        ])
+        match self.rooms.get(index as usize) {
+            Some(word) => *word,
+            None => room_word(self.list, index, period),
+        }
     }
 
     // Where the offer for a position stands.
@@ -182,31 +168,4 @@ pub(crate) fn place(words: u32, row: u32, column: u32) -> usize
     ensures small { result ≤ 524284 }
 {
     row as usize * words as usize + column as usize
-}
-
-// What an activity demands of a resource, counted from 0, or 0 where there is none.
-fn demand_of(instance: &Instance, activity: u32, resource: u32) -> u16
-    requires activity { IsActivity instance.now activity }
-    requires runs { 0 < duration instance.now activity }
-    requires fits { HasNoMisfit instance.now }
-    requires resource { resource < 16 }
-    ensures { result ≡ (if nat_lt resource (resource_count instance.now) then demand instance.now activity (resource + 1) else 0) }
-{
-    if resource < instance.resources() {
-        instance.demand(activity, resource + 1) as u16
-    } else {
-        0
-    }
-}
-
-// The capacity of a resource, counted from 0, in a period, or 0 where there is none.
-fn capacity_of(instance: &Instance, resource: u32, period: u32) -> u16
-    requires { resource < 16 }
-    ensures { result ≡ (if nat_lt resource (resource_count instance.now) then capacity_at instance.now (resource + 1) period else 0) }
-{
-    if resource < instance.resources() {
-        instance.capacity_at(resource + 1, period) as u16
-    } else {
-        0
-    }
 }

@@ -1,9 +1,9 @@
 ghost use Rattle.std.specs.Prelude.{◌≡◌, ◌≢◌, ℕ, ◌+◌, ◌*◌, ◌/◌, ◌%◌, ◌<◌, ◌≤◌, true, false, slice_index, IfOk, IfErr};
-ghost use Rattle.book_rule.specs.Listed.{count, width, horizon_of};
+ghost use Rattle.book_rule.specs.Listed.{count, begins, width, horizon_of};
 ghost use Rattle.book_rule.specs.Reaches.{is_whole};
 ghost use Rattle.book_rule.specs.Searches.{is_chosen};
 ghost use Rattle.book_rule.specs.Layout.{blocks};
-ghost use Rattle.book_rule.specs.Views.{after_turn, after_claim, after_add, after_store, after_release, after_ticket, after_raise};
+ghost use Rattle.book_rule.specs.Views.{after_turn, after_claim, after_known_claim, after_add, after_store, after_release, after_ticket, after_raise};
 ghost use Rattle.book_rule.specs.Knowledge.{IsNextWord};
 ghost use Rattle.book_rule.specs.Told.{Looked, Begun, Ended, Loaded, StartLoaded, OfferLoaded, FloorLoaded, IsKeptFloor};
 ghost use Rattle.book_table.specs.Passes.{IsPassOf, IsFree, Holds};
@@ -110,6 +110,21 @@ impl<'n> Book<'n> {
             free: NONE,
         };
         Ok(())
+    }
+
+    /// The same where the serial start of that position is known: it is chosen at once, and no word is
+    /// loaded to search it.
+    pub fn claim_known(&self, pass: &mut Pass, turn: u64, start: u32) -> Result<(), u64>
+        requires own { IsFree self.now pass.old }
+        requires seen { turn ≡ pass.old.view.seen }
+        requires even { turn % 2 ≡ 0 }
+        requires more { turn < 2 * count self.now.listing }
+        requires known { start ≡ begins self.now.listing (turn / 2) }
+        ensures own { IsPassOf self.now pass.new }
+        ensures won { IfOk result (λ _. pass.new.view ≡ after_known_claim self.now.listing pass.old.view turn start) }
+        ensures lost { IfErr result (λ v. (pass.new.view ≡ after_turn self.now.listing pass.old.view v) × (turn < v) × (v ≤ 2 * count self.now.listing)) }
+    {
+        self.claim_at::<Brand>(pass, turn, start)
     }
 
     /// Loads a profile word. Where it is the next word that the search needs, the search goes on: past

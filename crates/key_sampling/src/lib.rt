@@ -12,8 +12,10 @@
 //! let list = list_of_sample(alloc, &net, seed, best.sample)?;
 //! ```
 //!
-//! The workers share a [`Race`]: a table of two words, the next ticket and the best word. A caller of
-//! its own holds a [`Seeker`], takes samples, and settles each by a bound or by its value:
+//! The workers share a [`Race`]: a table with two words, the next ticket and the best word, which
+//! stand on cache lines of their own, so that a ticket that is drawn does not take the best word away
+//! from those that load it. A caller of its own holds a [`Seeker`], takes samples, and settles each
+//! by a bound or by its value:
 //!
 //! ```text
 //! while let Some(sample) = race.take(&mut seeker) {

@@ -2,7 +2,7 @@ ghost use Rattle.std.specs.Prelude.{◌≡◌, ℕ, ◌+◌, ◌<◌, ◌≤◌,
 ghost use Rattle.key_sampling.specs.Best.{IsRange};
 
 use crate::plays::Another;
-use crate::race::Race;
+use crate::race::{BEST, Race};
 use crate::seeker::Seeker;
 use crate::terms::Terms;
 use activity_net::Net;
@@ -13,6 +13,9 @@ use std::alloc::Global;
 
 /// The most seekers of a race.
 pub const MAX_SEEKERS: u32 = 64;
+
+// The words of the table, up to the best word.
+const WORDS: usize = BEST + 1;
 
 impl<'n> Race<'n> {
     ghost use Rattle.race_rule.specs.Views.{with_another};
@@ -60,7 +63,9 @@ impl<'n> Race<'n> {
     {
         // An order of the net shows that the list of each sample is feasible.
         let _order = terms.net.order();
-        let (table, seat) = Table::of_words(alloc, &[0, NO_WORD], &terms)?;
+        let mut words = [0; WORDS];
+        words[BEST] = NO_WORD;
+        let (table, seat) = Table::of_words(alloc, &words, &terms)?;
         let first = Seeker {
             seat,
             number: 0,

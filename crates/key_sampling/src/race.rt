@@ -1,6 +1,7 @@
 ghost use Rattle.std.specs.Prelude.{◌≡◌, ℕ, ◌+◌, ◌^◌, ◌<◌, ◌≤◌, true, false, IfSome, IfNone, IsSome, None, slice_index, unwrap_or, if◌then◌else◌};
 ghost use Rattle.key_sampling.specs.Samples.{sample_makespan};
 ghost use Rattle.key_sampling.specs.Words.{words_of};
+ghost use Rattle.race_rule.specs.Rule.{word_count};
 
 use crate::plays::{Limit, Looks, OfSamples, Takes, Values};
 use crate::seeker::Seeker;
@@ -11,10 +12,11 @@ use race_rule::SeekerView;
 use std::alloc::Global;
 use std::marker::Brand;
 
-// The places of the two words of the table.
+// The places of the two words of the table: on cache lines of their own, so that a ticket that is
+// drawn does not take the best word away from those that load it.
 pub(crate) const TICKET: usize = 0;
 
-pub(crate) const BEST: usize = 1;
+pub(crate) const BEST: usize = 16;
 
 /// A shared search for the best sample of a range, by several seekers.
 ///
@@ -26,7 +28,7 @@ pub struct Race<'n> {
     pub(crate) terms: Terms<'n>,
     ghost words: { words_of table.shared.key ≡ words_of terms },
     ghost from: { table.shared.key.from ≡ terms.from },
-    ghost two: { table.shared.table_id.words ≡ 2 },
+    ghost wide: { table.shared.table_id.words ≡ word_count },
     ghost none: { table.shared.table_id.slots ≡ 0 },
     ghost within: { terms.from + terms.count ≤ 2 ^ 32 },
 }

@@ -1,4 +1,5 @@
 pub mod AdvancedLaws
 pub mod WordLaws
 pub mod TryLaws
+pub mod KnownLaws
 pub mod FreshLaws

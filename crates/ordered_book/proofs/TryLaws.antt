@@ -5,12 +5,15 @@ use Rattle.std.proofs.lemmas.Bool.Decides.{nat_tests}
 use Rattle.std.proofs.lemmas.List.Sums.{sum_by-cons}
 use Rattle.std.proofs.Math.Nat.{mul-add, mul-le-mul_left}
 use Rattle.activity_net.specs.Network.{Listing}
+use Rattle.book_rule.specs.declared.view.Offer.{Offer}
+use Rattle.book_rule.specs.declared.view.Search.{Search}
 use Rattle.book_rule.specs.declared.view.View.{View}
 use Rattle.book_rule.specs.Listed.{begins, lasts, width}
-use Rattle.book_rule.specs.Views.{after_turn, after_offer, after_claim}
+use Rattle.book_rule.specs.Searches.{known_search}
+use Rattle.book_rule.specs.Views.{after_turn, after_offer, after_claim, after_claim_with, after_known_claim, after_release, adopted_search}
 use Rattle.book_rule.specs.Knowledge.{IsHolder}
 use Rattle.ordered_book.specs.Advanced.{cost_of, advanced, HasBooked}
-use Rattle.ordered_book.specs.Booking.{IsBooked}
+use Rattle.ordered_book.specs.Booking.{booked_view, IsBooked}
 use Rattle.ordered_book.proofs.AdvancedLaws.{advanced_more, booked_none}
 
 -- the turn was loaded, and nothing booked
@@ -26,35 +29,73 @@ cost_covers : (n rest own offer a b : ℕ) → own ≤ offer → a + n * offer �
 cost_covers n rest own offer a b low loads = omega
     (arith, mul-add n rest own, mul-le-mul_left n low)
 
--- the position that was claimed after its offer was loaded is booked
-pub one_booked : (list : Listing) (u v w z : View) (i t x : ℕ) → i ≡ t / 2
-    → v ≡ after_offer u i x → w ≡ after_claim v t → IsBooked list w z
+-- a claim has put position i in hand, and changed nothing that bookings keep
+pub record IsInHand (u w : View) (i : ℕ) : Type 0 where
+  pub position : w.search.position ≡ i
+  pub released : w.released ≡ u.released
+  pub mine : w.mine ≡ u.mine
+  pub loaded : w.loaded ≡ u.loaded
+  pub others : w ≡ advanced u w
+
+-- whatever offer it had loaded, and whatever its search begins with
+in_hand : (u w : View) (offer : Offer) (search : Search) (t : ℕ)
+    → w ≡ after_claim_with search (record u { adopted = offer }) t → IsInHand u w search.position
+in_hand u w offer search t is =
+    subst (λ (y : View). IsInHand u y search.position) (sym is) (record {
+      position = refl;
+      released = refl;
+      mine = refl;
+      loaded = refl;
+      others = refl;
+    })
+
+-- the claim after an offer was loaded, and that with a known start
+pub offer_in_hand : (u v w : View) (i t x : ℕ) → v ≡ after_offer u i x → w ≡ after_claim v t
+    → IsInHand u w (t / 2)
+offer_in_hand u v w i t x loaded claimed =
+    let search = adopted_search v t in
+    in_hand u w (record { position = i; start = x }) search t
+    (claimed ∙ ap (λ (y : View). after_claim_with search y t) loaded)
+
+pub known_in_hand : (list : Listing) (u w : View) (t start : ℕ)
+    → w ≡ after_known_claim list u t start → IsInHand u w (t / 2)
+known_in_hand list u w t start claimed =
+    in_hand u w u.adopted (known_search list (t / 2) t start) t claimed
+
+-- the position in hand is booked
+pub one_booked : (list : Listing) (u w z : View) (i : ℕ) → IsInHand u w i → IsBooked list w z
     → z.loaded ≤ w.loaded + cost_of list u.offered i → HasBooked list u z
-one_booked list u v w z i t x at loaded claimed booked few =
-    let position : w.search.position ≡ i =
-    ap (λ (y : View). y.search.position) claimed ∙ sym at in
-    let released : w.released ≡ u.released =
-    ap (λ (y : View). y.released) claimed ∙ ap (λ (y : View). y.released) loaded in
-    let mine : w.mine ≡ u.mine =
-    ap (λ (y : View). y.mine) claimed ∙ ap (λ (y : View). y.mine) loaded in
-    let count : w.loaded ≡ u.loaded =
-    ap (λ (y : View). y.loaded) claimed ∙ ap (λ (y : View). y.loaded) loaded in
+one_booked list u w z i hand booked few =
     let more : z.mine ≡ w.mine + 1 = ap (λ (y : View). y.mine) booked.only in
     let sum = sum_by-cons (cost_of list u.offered) i [] in
-    let first : v ≡ advanced u v = subst (λ (y : View). y ≡ advanced u y) (sym loaded) refl in
-    let second : w ≡ advanced v w = subst (λ (y : View). y ≡ advanced v y) (sym claimed) refl in
-    let third : z ≡ advanced w z =
+    let last : z ≡ advanced w z =
     booked.only ∙ sym (ap (λ (y : View). advanced w y) booked.only) in
     let rises = booked.rises in
+    let loaded = hand.loaded in
+    let mine = hand.mine in
     record {
       gained = i ∷ [];
       released = ap (λ (y : View). y.released) booked.only
-          ∙ (ap (λ xs. xs ++ w.search.position ∷ []) released
-          ∙ ap (λ k. u.released ++ k ∷ []) position);
+          ∙ (ap (λ xs. xs ++ w.search.position ∷ []) hand.released
+          ∙ ap (λ k. u.released ++ k ∷ []) hand.position);
       mine = omega arith;
       rises = omega arith;
       loaded = omega arith;
-      others = advanced_more u w z (advanced_more u v w first second) third;
+      others = advanced_more u w z hand.others last;
+    }
+
+-- where its start was chosen with the claim, no word was loaded
+pub chosen_booked : (list : Listing) (w z : View) → IsHolder list w → z ≡ after_release w
+    → IsBooked list w z
+chosen_booked list w z holder released =
+    let i = w.search.position in
+    let loaded : z.loaded ≡ w.loaded = ap (λ (y : View). y.loaded) released in
+    let early : w.search.least ≤ begins list i + lasts list i = omega (arith, holder.early) in
+    record {
+      only = subst (λ (y : View). y ≡ booked_view w y) (sym released) refl;
+      rises = omega arith;
+      within = omega (arith, mul-le-mul_left (width list) early);
+      none = λ _. loaded;
     }
 
 -- what that booking has loaded

@@ -2,7 +2,7 @@ ghost use Rattle.std.specs.Prelude.{◌≡◌, ◌+◌, ◌*◌, ◌%◌, ◌<�
 ghost use Rattle.book_rule.specs.Listed.{IsBookable, count};
 ghost use Rattle.book_rule.specs.Reaches.{none_reached, is_whole};
 ghost use Rattle.book_rule.specs.Searches.{is_chosen};
-ghost use Rattle.book_rule.specs.Views.{lets_rest, full_hand};
+ghost use Rattle.book_rule.specs.Views.{lets_rest, full_hand, after_release};
 ghost use Rattle.book_table.specs.Passes.{IsFree, Holds};
 ghost use Rattle.book_search.specs.Sought.{HasOnlyRead};
 ghost use Rattle.ordered_book.specs.Advanced.{IsShown, HasBooked};
@@ -66,7 +66,7 @@ pub(crate) fn book_next<G: Gate>(book: &Book<'_>, pass: &mut Pass, turn: u64, ga
     book.load_turn(pass)
 }
 
-// Books the position in hand: it searches the start, adds the demand, stores the start, and releases the turn.
+// Books the position in hand: it searches the start, and books it there.
 fn book_in_hand(book: &Book<'_>, pass: &mut Pass)
     requires own { Holds book.now pass.old }
     requires bookable { IsBookable book.now.listing }
@@ -77,6 +77,18 @@ fn book_in_hand(book: &Book<'_>, pass: &mut Pass)
 {
     // The holder of a position always finds its start.
     let _ = seek(book, pass);
+    book_chosen(book, pass);
+}
+
+// Books the position in hand, whose start is chosen: it adds the demand, stores the start, and releases the turn.
+pub(crate) fn book_chosen(book: &Book<'_>, pass: &mut Pass)
+    requires own { Holds book.now pass.old }
+    requires bookable { IsBookable book.now.listing }
+    requires chosen { is_chosen book.now.listing pass.old.view.search ≡ true }
+    requires none { pass.old.view.hand.added ≡ none_reached }
+    ensures own { IsFree book.now pass.new }
+    ensures released { pass.new.view ≡ after_release pass.old.view }
+{
     add_words(book, pass);
     book.store_start(pass);
     book.release(pass);

@@ -13,9 +13,11 @@
 #![tactic(auto)]
 
 mod claiming;
+mod known;
 mod stop;
 #[cfg(test)]
 mod tests;
 
 pub use claiming::advance;
+pub use known::advance_known;
 pub use stop::Advance;

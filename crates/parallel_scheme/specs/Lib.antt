@@ -1,4 +1,3 @@
-pub mod Fault
 pub mod Parallel
 pub mod NonDelay
 pub mod Laws

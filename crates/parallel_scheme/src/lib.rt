@@ -17,12 +17,10 @@
 //! ```
 #![tactic(auto)]
 
-mod fault;
 pub mod laws;
 mod progress;
 mod scheme;
 #[cfg(test)]
 mod tests;
 
-pub use fault::ParallelFault;
 pub use scheme::parallel;

@@ -4,16 +4,16 @@ ghost use Rattle.rc_instance.specs.Project.{IsActivity, horizon};
 ghost use Rattle.rc_instance.specs.Calendar.{IsWithinLimits};
 ghost use Rattle.rc_instance.specs.Misfit.{HasNoMisfit};
 ghost use Rattle.rc_instance.specs.Schedule.{IsFeasible, makespan};
-ghost use Rattle.parallel_scheme.specs.Fault.{IsFault};
+ghost use Rattle.serial_plain.specs.Fault.{IsFault};
 ghost use Rattle.parallel_scheme.specs.Parallel.{booked_before, parallel_schedule};
 ghost use Rattle.parallel_scheme.specs.NonDelay.{IsNonDelay};
 ghost use Rattle.parallel_scheme.specs.Passing.{IsReached, IsTold, IsVisited};
 
-use crate::fault::ParallelFault;
 use crate::progress::Progress;
 use activity_net::{FeasibleList, Net};
 use event_line::Line;
 use rc_instance::{Memory, Schedule};
+use serial_plain::SchemeFault;
 use std::alloc::Global;
 
 /// The parallel schedule of a feasible list: in each period, from 0 on, the first of the list that
@@ -21,7 +21,7 @@ use std::alloc::Global;
 /// predecessors have ended and it fits.
 ///
 /// It is refused with the first misfit, if the instance has one, and else only for want of memory.
-pub fn parallel(alloc: Global, list: &FeasibleList<'_>) -> Result<Schedule, ParallelFault>
+pub fn parallel(alloc: Global, list: &FeasibleList<'_>) -> Result<Schedule, SchemeFault>
     ensures schedule { IfOk result (λ starts.
         starts ≡ parallel_schedule list.now.network.project list.now.order) }
     ensures feasible { IfOk result (IsFeasible list.now.network.project) }

@@ -1,6 +1,7 @@
 use super::*;
 use activity_net::{FeasibleList, Net};
 use rc_instance::{Instance, Misfit, Parts, Schedule};
+use serial_plain::SchemeFault;
 use std::alloc::Global;
 use std::test::*;
 
@@ -69,7 +70,7 @@ fn net_of(alloc: Global, row: &Row) -> Result<Net, Fail> {
 }
 
 // The answer to the list of a row.
-fn answer(alloc: Global, row: &Row) -> Result<Result<Schedule, ParallelFault>, Fail> {
+fn answer(alloc: Global, row: &Row) -> Result<Result<Schedule, SchemeFault>, Fail> {
     let net = net_of(alloc, row)?;
     let list = FeasibleList::of(alloc, &net, row.order)
         .ok()
@@ -109,6 +110,6 @@ fn a_misfit_is_refused_with_its_values(rt: HostRuntime) -> Result<(), Fail> {
         demand: 3,
         capacity: 2,
     };
-    assert!(rt; refused == ParallelFault::Misfit(misfit));
+    assert!(rt; refused == SchemeFault::Misfit(misfit));
     Ok(())
 }

@@ -8,7 +8,7 @@ use lib.ListN.{get_elem?}
 use Rattle.atomic_table.specs.Table.{State, Seen}
 use Rattle.race_rule.specs.declared.view.SeekerView.{SeekerView}
 use Rattle.race_rule.specs.declared.view.TheConstants.{NO_WORD}
-use Rattle.race_rule.specs.Rule.{AreWords, IsBestWord, RaceRule, IsLeastWord, one_if, lives}
+use Rattle.race_rule.specs.Rule.{ticket_word, best_word, AreWords, IsBestWord, RaceRule, IsLeastWord, one_if, lives}
 use Rattle.race_rule.proofs.ViewLists.{sum_by-two}
 use Rattle.race_rule.proofs.Knowing.{knows, is_blank}
 
@@ -33,10 +33,10 @@ all_spent words from state v u seat rule at alive all other found =
 least_of_all : (words : List ℕ) (from : ℕ) (state : State (Unit {0}) SeekerView) (v : SeekerView)
     (t : ℕ) → RaceRule words from state → get_elem? state.views 0 ≡ some v → v.spent ≡ false
     → v.ended ≡ true → v.joined + 1 ≡ v.made → t < length words
-    → slice_index state.words 1 ≤ slice_index words t
+    → slice_index state.words best_word ≤ slice_index words t
 least_of_all words from state v t rule at alive ended all within =
-    let best = slice_index state.words 1 in
-    let n = slice_index state.words 0 in
+    let best = slice_index state.words best_word in
+    let n = slice_index state.words ticket_word in
     let k = knows words from best n v (rule.sound 0 v at) alive in
     let over = k.over ended in
     let far = over.1 in
@@ -80,11 +80,11 @@ is_word words best are (inr word) low = word
 -- so it is the least word
 pub finishes : (words : List ℕ) (from : ℕ) (state : State (Unit {0}) SeekerView) (v : SeekerView)
     → Seen (RaceRule words from) 0 v state → v.spent ≡ false → v.ended ≡ true
-    → v.joined + 1 ≡ v.made → IsLeastWord words (slice_index state.words 1)
+    → v.joined + 1 ≡ v.made → IsLeastWord words (slice_index state.words best_word)
 finishes words from state v held alive ended all =
     let rule = held.0 in
     let at = held.1 in
-    let best = slice_index state.words 1 in
+    let best = slice_index state.words best_word in
     let each = λ (t : ℕ) (within : t < length words).
     least_of_all words from state v t rule at alive ended all within in
     record {

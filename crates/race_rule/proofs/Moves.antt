@@ -7,7 +7,7 @@ use lib.ListN.{get_elem?}
 use Rattle.atomic_table.specs.Table.{State}
 use Rattle.atomic_table.proofs.Lists.{at_set, set_here, set_else}
 use Rattle.race_rule.specs.declared.view.SeekerView.{SeekerView}
-use Rattle.race_rule.specs.Rule.{IsBestWord, Knows, IsSound, IsTaken, HasChief, IsNumbered, RaceRule, one_if, ends, lives}
+use Rattle.race_rule.specs.Rule.{ticket_word, best_word, word_count, IsBestWord, Knows, IsSound, IsTaken, HasChief, IsNumbered, RaceRule, one_if, ends, lives}
 use Rattle.race_rule.proofs.ViewLists.{sum_by-set}
 use Rattle.race_rule.proofs.Knowing.{sound-later}
 
@@ -59,18 +59,18 @@ at_after views id v w seat u within at found =
 -- a step that changes one view and the words
 pub record IsMove (words : List ℕ) (from : ℕ) (state : State (Unit {0}) SeekerView) (v w : SeekerView)
     (now : List ℕ) : Type 0 where
-  pub two : length now ≡ 2
-  pub best : IsBestWord words (slice_index now 1)
-  pub falls : slice_index now 1 ≤ slice_index state.words 1
-  pub rises : slice_index state.words 0 ≤ slice_index now 0
+  pub wide : length now ≡ word_count
+  pub best : IsBestWord words (slice_index now best_word)
+  pub falls : slice_index now best_word ≤ slice_index state.words best_word
+  pub rises : slice_index state.words ticket_word ≤ slice_index now ticket_word
   pub alive : w.spent ≡ false
   pub same : IsSameSeeker v w
-  pub knows : Knows words from (slice_index now 1) (slice_index now 0) w
+  pub knows : Knows words from (slice_index now best_word) (slice_index now ticket_word) w
   pub kept : (t : ℕ) → Contains (v.drawn ++ v.gathered) t → Contains (w.drawn ++ w.gathered) t
-  pub drawn : (t : ℕ) → t < length words → t < slice_index now 0
-      → (t < slice_index state.words 0) ⊎ Contains (w.drawn ++ w.gathered) t
-  pub count : (slice_index now 0 ≤ length words)
-      ⊎ (slice_index now 0 + ends v ≤ slice_index state.words 0 + ends w)
+  pub drawn : (t : ℕ) → t < length words → t < slice_index now ticket_word
+      → (t < slice_index state.words ticket_word) ⊎ Contains (w.drawn ++ w.gathered) t
+  pub count : (slice_index now ticket_word ≤ length words)
+      ⊎ (slice_index now ticket_word + ends v ≤ slice_index state.words ticket_word + ends w)
 
 -- what was drawn before still is
 taken-moved : (views : List SeekerView) (id : ℕ) (v w : SeekerView) (t : ℕ) → suc id ≤ length views
@@ -148,15 +148,15 @@ pub moved : (words : List ℕ) (from : ℕ) (state : State (Unit {0}) SeekerView
     → RaceRule words from (record { words = now; homes = homes; views = set state.views id w })
 moved words from state homes id v w now rule at within move = record {
   are_words = rule.are_words;
-  two = move.two;
+  wide = move.wide;
   best = move.best;
   sound = λ seat u found.
       elim (at_set state.views id seat w u found) [
-        | inl here ↦ subst (IsSound words from (slice_index now 1) (slice_index now 0)) here.1
-            (inr (move.alive, move.knows))
-        | inr there ↦ sound-later words from (slice_index state.words 1) (slice_index state.words 0)
-            (slice_index now 1) (slice_index now 0) u move.falls move.rises
-            (rule.sound seat u there.1)
+        | inl here ↦ subst (IsSound words from (slice_index now best_word)
+            (slice_index now ticket_word)) here.1 (inr (move.alive, move.knows))
+        | inr there ↦ sound-later words from (slice_index state.words best_word)
+            (slice_index state.words ticket_word) (slice_index now best_word)
+            (slice_index now ticket_word) u move.falls move.rises (rule.sound seat u there.1)
       ];
   taken = λ t inside below.
       elim (move.drawn t inside below) [
@@ -164,9 +164,9 @@ moved words from state homes id v w now rule at within move = record {
             (rule.taken t inside before)
         | inr new ↦ record { seat = id; view = w; at = set_here state.views id w within; has = new }
       ];
-  count = count-moved (length words) (slice_index state.words 0) (slice_index now 0)
-      (sum_by ends state.views) (sum_by ends (set state.views id w)) (ends v) (ends w) rule.count
-      (sum_by-set ends state.views id v w at) move.count;
+  count = count-moved (length words) (slice_index state.words ticket_word)
+      (slice_index now ticket_word) (sum_by ends state.views) (sum_by ends (set state.views id w))
+      (ends v) (ends w) rule.count (sum_by-set ends state.views id v w at) move.count;
   chief = chief-moved state.views id v w within at move.same rule.chief;
   numbered = λ chief first seat u found alive.
       let c = at_before state.views id v w 0 chief at move.same first in

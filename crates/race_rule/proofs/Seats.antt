@@ -12,7 +12,7 @@ use Rattle.atomic_table.proofs.Lists.{at_set, set_here, set_else, at_longer}
 use Rattle.race_rule.specs.declared.view.SeekerView.{SeekerView}
 use Rattle.race_rule.specs.declared.view.TheConstants.{NO_WORD}
 use Rattle.race_rule.specs.Views.{newcomer, blank, with_another, another, with_gathered}
-use Rattle.race_rule.specs.Rule.{AreWords, Knows, IsSound, IsTaken, IsNumbered, RaceRule, one_if, ends, lives}
+use Rattle.race_rule.specs.Rule.{ticket_word, best_word, first_words, AreWords, Knows, IsSound, IsTaken, IsNumbered, RaceRule, one_if, ends, lives}
 use Rattle.race_rule.proofs.ViewLists.{sum_by-set, sum_by-at, sum_by-push, at_push, at_within}
 use Rattle.race_rule.proofs.Moves.{at_after}
 use Rattle.race_rule.proofs.Knowing.{knows, knows-counting, newcomer-knows, best-le, gather-knows}
@@ -24,11 +24,11 @@ at_one v w (suc seat) e = absurd (some-ne-none w (sym e))
 
 -- the rule at the start: no ticket is drawn, there is no best word, and there is seeker 0
 pub begins : (words : List ℕ) (from : ℕ) → AreWords words
-    → RaceRule words from (opening (0 ∷ NO_WORD ∷ []) [] (newcomer words from 0 1))
+    → RaceRule words from (opening first_words [] (newcomer words from 0 1))
 begins words from are =
     let first = newcomer words from 0 1 in record {
       are_words = are;
-      two = refl;
+      wide = refl;
       best = inl refl;
       sound = λ seat view at.
           subst (IsSound words from NO_WORD 0) (at_one first view seat at).1
@@ -166,8 +166,8 @@ split-taken views v t within at taken =
 pub splits : (words : List ℕ) (from : ℕ) (v : SeekerView) → v.spent ≡ false → v.made < 64
     → Splits (RaceRule words from) 0 v (with_another v) (another v)
 splits words from v alive room = λ state rule at.
-    let best = slice_index state.words 1 in
-    let n = slice_index state.words 0 in
+    let best = slice_index state.words best_word in
+    let n = slice_index state.words ticket_word in
     let k = knows words from best n v (rule.sound 0 v at) alive in
     let made = chief_made state words from v rule at in
     let within = at_within state.views v 0 at in
@@ -199,7 +199,7 @@ splits words from v alive room = λ state rule at.
     ] in
     record {
       are_words = rule.are_words;
-      two = rule.two;
+      wide = rule.wide;
       best = rule.best;
       sound = λ seat u found.
           elim (at_split state.views v u seat found) [
@@ -340,8 +340,8 @@ pub joins : (words : List ℕ) (from other : ℕ) (v w : SeekerView) → v.spent
     → w.spent ≡ false → w.ended ≡ true → w.number ≡ v.joined + 1
     → Joins (RaceRule words from) 0 v other w (with_gathered v w) blank
 joins words from other v w alive_v alive_w ended next = λ state rule at apart found.
-    let best = slice_index state.words 1 in
-    let n = slice_index state.words 0 in
+    let best = slice_index state.words best_word in
+    let n = slice_index state.words ticket_word in
     let views = state.views in
     let both = with_gathered v w in
     let within = at_within views v 0 at in
@@ -378,7 +378,7 @@ joins words from other v w alive_v alive_w ended next = λ state rule at apart f
     ] in
     record {
       are_words = rule.are_words;
-      two = rule.two;
+      wide = rule.wide;
       best = rule.best;
       sound = λ seat u here.
           elim (at_join views v w u other seat here) [

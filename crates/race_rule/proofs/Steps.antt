@@ -8,7 +8,7 @@ use mathlib.Core.Option.{none}
 use Rattle.atomic_table.specs.Table.{State, Me, keeps, step, Allows}
 use Rattle.race_rule.specs.declared.view.SeekerView.{SeekerView}
 use Rattle.race_rule.specs.Views.{with_ticket, after_take, with_look, after_look, after_value}
-use Rattle.race_rule.specs.Rule.{IsBestWord, Knows, IsSound, RaceRule, one_if, ends, lives}
+use Rattle.race_rule.specs.Rule.{ticket_word, best_word, word_count, IsBestWord, Knows, IsSound, RaceRule, one_if, ends, lives}
 use Rattle.race_rule.specs.Plays.{IsSeen, IsTaking, IsLooking, IsValuing}
 use Rattle.race_rule.proofs.ViewLists.{sum_by-below, at_within}
 use Rattle.race_rule.proofs.Knowing.{knows, take-knows, look-knows, settle-knows, knows-later}
@@ -30,11 +30,11 @@ ends-le words from best ticket v (inr k) =
 
 -- so the next ticket does not wrap
 ticket-small : (words : List ℕ) (from : ℕ) (state : State (Unit {0}) SeekerView)
-    → RaceRule words from state → slice_index state.words 0 + 1 < 2 ^ 64
+    → RaceRule words from state → slice_index state.words ticket_word + 1 < 2 ^ 64
 ticket-small words from state rule =
     let all = sum_by-below ends lives state.views
-    (λ seat v at. ends-le words from (slice_index state.words 1) (slice_index state.words 0) v
-    (rule.sound seat v at)) in
+    (λ seat v at. ends-le words from (slice_index state.words best_word)
+    (slice_index state.words ticket_word) v (rule.sound seat v at)) in
     let few = rule.are_words.few in
     let count = rule.count in
     let made = rule.chief.made in
@@ -42,18 +42,20 @@ ticket-small words from state rule =
     omega arith
 
 -- the words after a change of one
-ticket_set : (ws : List ℕ) (x : ℕ) → length ws ≡ 2
-    → (slice_index (set ws 0 x) 0 ≡ x) × (slice_index (set ws 0 x) 1 ≡ slice_index ws 1)
-ticket_set ws x two = (
-  get_or-set_same ws 0 x 0 (omega arith),
-  get_or-set_other ws 0 1 x 0 (λ e. absurd (omega arith)),
+ticket_set : (ws : List ℕ) (x : ℕ) → length ws ≡ word_count
+    → (slice_index (set ws ticket_word x) ticket_word ≡ x)
+    × (slice_index (set ws ticket_word x) best_word ≡ slice_index ws best_word)
+ticket_set ws x wide = (
+  get_or-set_same ws ticket_word x 0 (omega arith),
+  get_or-set_other ws ticket_word best_word x 0 (λ e. absurd (omega arith)),
 )
 
-best_set : (ws : List ℕ) (x : ℕ) → length ws ≡ 2
-    → (slice_index (set ws 1 x) 0 ≡ slice_index ws 0) × (slice_index (set ws 1 x) 1 ≡ x)
-best_set ws x two = (
-  get_or-set_other ws 1 0 x 0 (λ e. absurd (omega arith)),
-  get_or-set_same ws 1 x 0 (omega arith),
+best_set : (ws : List ℕ) (x : ℕ) → length ws ≡ word_count
+    → (slice_index (set ws best_word x) ticket_word ≡ slice_index ws ticket_word)
+    × (slice_index (set ws best_word x) best_word ≡ x)
+best_set ws x wide = (
+  get_or-set_other ws best_word ticket_word x 0 (λ e. absurd (omega arith)),
+  get_or-set_same ws best_word x 0 (omega arith),
 )
 
 -- what a seeker sees of a best word that has not risen
@@ -98,24 +100,24 @@ take-count false v n m going within =
 -- to draw a ticket is such a move
 take-move : (words : List ℕ) (from : ℕ) (state : State (Unit {0}) SeekerView) (v : SeekerView)
     → RaceRule words from state
-    → Knows words from (slice_index state.words 1) (slice_index state.words 0) v
+    → Knows words from (slice_index state.words best_word) (slice_index state.words ticket_word) v
     → v.spent ≡ false → v.hand ≡ None → v.ended ≡ false
-    → IsMove words from state v (after_take v (slice_index state.words 0))
-    (set state.words 0 ((slice_index state.words 0 + 1) % 2 ^ 64))
+    → IsMove words from state v (after_take v (slice_index state.words ticket_word))
+    (set state.words ticket_word ((slice_index state.words ticket_word + 1) % 2 ^ 64))
 take-move words from state v rule k alive idle going =
-    let n = slice_index state.words 0 in
-    let best = slice_index state.words 1 in
+    let n = slice_index state.words ticket_word in
+    let best = slice_index state.words best_word in
     let b = nat_lt n (length v.words) in
     let small = ticket-small words from state rule in
     let exact : (n + 1) % 2 ^ 64 ≡ n + 1 = omega arith in
-    let now = set state.words 0 ((n + 1) % 2 ^ 64) in
-    let word = ticket_set state.words ((n + 1) % 2 ^ 64) rule.two in
-    let ticket_is : slice_index now 0 ≡ n + 1 = word.0 ∙ exact in
-    let best_is : slice_index now 1 ≡ best = word.1 in
+    let now = set state.words ticket_word ((n + 1) % 2 ^ 64) in
+    let word = ticket_set state.words ((n + 1) % 2 ^ 64) rule.wide in
+    let ticket_is : slice_index now ticket_word ≡ n + 1 = word.0 ∙ exact in
+    let best_is : slice_index now best_word ≡ best = word.1 in
     let count : length v.words ≡ length words = ap length k.words_are in
     let same = take-same b v n in
     record {
-      two = length-set state.words 0 ((n + 1) % 2 ^ 64) ∙ rule.two;
+      wide = length-set state.words ticket_word ((n + 1) % 2 ^ 64) ∙ rule.wide;
       best = subst (IsBestWord words) (sym best_is) rule.best;
       falls = omega arith;
       rises = omega arith;
@@ -145,19 +147,19 @@ take-move words from state v rule k alive idle going =
 -- the step that draws a ticket
 pub takes : (words : List ℕ) (from slots id : ℕ) (me : Me (Unit {0}) SeekerView)
     → me.0.spent ≡ false → me.0.hand ≡ None → me.0.ended ≡ false
-    → Allows (RaceRule words from) slots id me 0 (λ n. (n + 1) % 2 ^ 64)
-    (IsTaking (step slots 0 1 0 none) me)
+    → Allows (RaceRule words from) slots id me ticket_word (λ n. (n + 1) % 2 ^ 64)
+    (IsTaking (step slots ticket_word 1 0 none) me)
 takes words from slots id me alive idle going = λ state rule homes at small.
     let v = me.0 in
-    let n = slice_index state.words 0 in
-    let k = knows words from (slice_index state.words 1) n v (rule.sound id v at) alive in
+    let n = slice_index state.words ticket_word in
+    let k = knows words from (slice_index state.words best_word) n v (rule.sound id v at) alive in
     let within = at_within state.views v id at in
     let next = k.next in (
       after_take v n,
       keeps,
       tt,
       moved words from state state.homes id v (after_take v n)
-          (set state.words 0 ((n + 1) % 2 ^ 64)) rule at within
+          (set state.words ticket_word ((n + 1) % 2 ^ 64)) rule at within
           (take-move words from state v rule k alive idle going),
       record {
         kept = refl;
@@ -184,16 +186,16 @@ look-ends false v best = refl
 -- a step on the best word that draws nothing is a move
 best-move : (words : List ℕ) (from : ℕ) (state : State (Unit {0}) SeekerView) (v w : SeekerView)
     (lower : ℕ) → RaceRule words from state → v.spent ≡ false → IsBestWord words lower
-    → lower ≤ slice_index state.words 1 → IsSameSeeker v w
+    → lower ≤ slice_index state.words best_word → IsSameSeeker v w
     → w.drawn ++ w.gathered ≡ v.drawn ++ v.gathered → ends w ≡ ends v
-    → Knows words from lower (slice_index state.words 0) w
-    → IsMove words from state v w (set state.words 1 lower)
+    → Knows words from lower (slice_index state.words ticket_word) w
+    → IsMove words from state v w (set state.words best_word lower)
 best-move words from state v w lower rule alive real falls same lists counts k =
-    let word = best_set state.words lower rule.two in
+    let word = best_set state.words lower rule.wide in
     let ticket_is = word.0 in
     let best_is = word.1 in
     record {
-      two = length-set state.words 1 lower ∙ rule.two;
+      wide = length-set state.words best_word lower ∙ rule.wide;
       best = subst (IsBestWord words) (sym best_is) real;
       falls = omega arith;
       rises = omega arith;
@@ -208,20 +210,20 @@ best-move words from state v w lower rule alive real falls same lists counts k =
 -- the step that looks at the best word: the limit is no greater than the word of the sample in hand
 pub looks : (words : List ℕ) (from slots id limit : ℕ) (me : Me (Unit {0}) SeekerView)
     → me.0.spent ≡ false → IfSome me.0.hand (λ t. limit ≤ slice_index words t)
-    → Allows (RaceRule words from) slots id me 1 (λ n. n)
-    (IsLooking limit (step slots 1 0 0 none) me)
+    → Allows (RaceRule words from) slots id me best_word (λ n. n)
+    (IsLooking limit (step slots best_word 0 0 none) me)
 looks words from slots id limit me alive low = λ state rule homes at small.
     let v = me.0 in
-    let best = slice_index state.words 1 in
-    let n = slice_index state.words 0 in
+    let best = slice_index state.words best_word in
+    let n = slice_index state.words ticket_word in
     let k = knows words from best n v (rule.sound id v at) alive in
     let b = nat_lt best limit in
     let within = at_within state.views v id at in (
       after_look limit v best,
       keeps,
       tt,
-      moved words from state state.homes id v (after_look limit v best) (set state.words 1 best)
-          rule at within
+      moved words from state state.homes id v (after_look limit v best)
+          (set state.words best_word best) rule at within
           (best-move words from state v (after_look limit v best) best rule alive rule.best
           (omega arith) (look-same b v best) (look-lists b v best) (look-ends b v best)
           (look-knows words from best n limit v k low)),
@@ -248,12 +250,12 @@ best-least words best t real within =
 -- the step that values the sample in hand: its word is lowered into the best word
 pub values : (words : List ℕ) (from slots id word t : ℕ) (me : Me (Unit {0}) SeekerView)
     → me.0.spent ≡ false → me.0.hand ≡ Some t → word ≡ slice_index words t
-    → Allows (RaceRule words from) slots id me 1 (λ n. min n word)
-    (IsValuing (step slots 1 word 0 none) me)
+    → Allows (RaceRule words from) slots id me best_word (λ n. min n word)
+    (IsValuing (step slots best_word word 0 none) me)
 values words from slots id word t me alive hand is = λ state rule homes at small.
     let v = me.0 in
-    let best = slice_index state.words 1 in
-    let n = slice_index state.words 0 in
+    let best = slice_index state.words best_word in
+    let n = slice_index state.words ticket_word in
     let lower = min best word in
     let k = knows words from best n v (rule.sound id v at) alive in
     let inside : t < length words =
@@ -268,8 +270,8 @@ values words from slots id word t me alive hand is = λ state rule homes at smal
       after_value v lower,
       keeps,
       tt,
-      moved words from state state.homes id v (after_value v lower) (set state.words 1 lower) rule
-          at within
+      moved words from state state.homes id v (after_value v lower)
+          (set state.words best_word lower) rule at within
           (best-move words from state v (after_value v lower) lower rule alive real falls
           (record { spent = refl; number = refl; made = refl; joined = refl }) refl refl
           (settle-knows words from lower n v.looks v

@@ -1,5 +1,5 @@
 -- The rule of a race: what holds between any two steps.
-use Rattle.std.specs.Prelude.{◌≡◌, ◌≢◌, ℕ, ◌+◌, ◌^◌, ◌<◌, ◌≤◌, ◌⊎◌, Bool, true, false, not, List, ◌++◌, length, slice_index, None, Some, IfSome, All, Contains}
+use Rattle.std.specs.Prelude.{◌≡◌, ◌≢◌, ℕ, ◌+◌, ◌^◌, ◌<◌, ◌≤◌, ◌⊎◌, Bool, true, false, not, List, ◌++◌, length, set, replicate, slice_index, None, Some, IfSome, All, Contains}
 use Rattle.std.specs.List.{sum_by}
 use mathlib.Core.Option.{some}
 use lib.ListN.{get_elem?}
@@ -7,6 +7,22 @@ use Rattle.atomic_table.specs.Table.{State}
 use Rattle.race_rule.specs.declared.view.SeekerView.{SeekerView}
 use Rattle.race_rule.specs.declared.view.TheConstants.{NO_WORD}
 use Rattle.race_rule.specs.Views.{blank}
+
+-- the place of the next ticket
+abbrev pub ticket_word : ℕ
+ticket_word = 0
+
+-- the place of the best word, two cache lines on: to draw a ticket does not take its line away
+abbrev pub best_word : ℕ
+best_word = 16
+
+-- so many words has the table; those between the two say nothing
+abbrev pub word_count : ℕ
+word_count = 17
+
+-- the words at the start: no ticket is drawn, and there is no best word
+abbrev pub first_words : List ℕ
+first_words = set (replicate word_count 0) best_word NO_WORD
 
 -- the words of some samples, not too many
 pub record AreWords (words : List ℕ) : Type 0 where
@@ -69,16 +85,17 @@ pub record IsNumbered (chief : SeekerView) (seat : ℕ) (view : SeekerView) : Ty
   pub below : view.number < chief.made
   pub above : seat ≢ 0 → (chief.joined < view.number) × (view.joined ≡ 0)
 
--- word 0 is the next ticket, word 1 the best word
+-- what holds of a race: of its next ticket, its best word, and its seekers
 pub record RaceRule (words : List ℕ) (from : ℕ) (state : State (Unit {0}) SeekerView) : Type 0 where
   pub are_words : AreWords words
-  pub two : length state.words ≡ 2
-  pub best : IsBestWord words (slice_index state.words 1)
+  pub wide : length state.words ≡ word_count
+  pub best : IsBestWord words (slice_index state.words best_word)
   pub sound : (seat : ℕ) (view : SeekerView) → get_elem? state.views seat ≡ some view
-      → IsSound words from (slice_index state.words 1) (slice_index state.words 0) view
-  pub taken : (ticket : ℕ) → ticket < length words → ticket < slice_index state.words 0
+      → IsSound words from (slice_index state.words best_word)
+      (slice_index state.words ticket_word) view
+  pub taken : (ticket : ℕ) → ticket < length words → ticket < slice_index state.words ticket_word
       → IsTaken state.views ticket
-  pub count : slice_index state.words 0 ≤ length words + sum_by ends state.views
+  pub count : slice_index state.words ticket_word ≤ length words + sum_by ends state.views
   pub chief : HasChief state.views
   pub numbered : (chief : SeekerView) → get_elem? state.views 0 ≡ some chief
       → (seat : ℕ) (view : SeekerView) → get_elem? state.views seat ≡ some view

@@ -15,7 +15,7 @@ use Rattle.rcpsp_run.specs.declared.refusal.Refusal.TheVariants.{TooLarge}
 use Rattle.rc_instance.specs.Results.{◌>>=◌}
 use Rattle.rcpsp_run.specs.Outcome.{contents, within_limit}
 use Rattle.rcpsp_run.proofs.RunLaws.{IfSome-implied}
-use Rattle.rcpsp_run.specs.Causes.{FilesAt, HasCause, IsRefusedAt, IsRefusalOf, Explains, refusal_for}
+use Rattle.rcpsp_run.specs.Causes.{FilesAt, HasCause, IsRefusedAt, IsOfFetch, IsRefusalOf, Explains, refusal_for}
 
 -- the names of files, of which a caller holds references
 abbrev pub names_now : List (Bor (List ℕ)) → List (List ℕ)
@@ -159,3 +159,14 @@ explains_refused pairs names place name fault refusal is within beyond (inl same
     by_fault fetching.Failed beyond = tt
     by_fault fetching.TooLarge beyond = contents-large pairs names place name is within (beyond refl)
     by_fault fetching.Memory beyond = tt
+
+-- and it is one of a file, or want of memory
+pub of_fetch : (name : List ℕ) (fault : FetchFault) (refusal : Refusal)
+    → IsRefusalOf name fault refusal → IsOfFetch refusal
+of_fetch name fault refusal (inr memory) = subst IsOfFetch (sym memory) tt
+of_fetch name fault refusal (inl same) = subst IsOfFetch (sym same) (by_fault fault)
+  where
+    by_fault : (fault : FetchFault) → IsOfFetch (refusal_for name fault)
+    by_fault fetching.Failed = tt
+    by_fault fetching.TooLarge = tt
+    by_fault fetching.Memory = tt

@@ -92,6 +92,13 @@ IsOfTexts (CannotRead _) = ⊥
 IsOfTexts (TooLarge _) = ⊥
 IsOfTexts _ = Unit {0}
 
+-- a refusal that comes of the files, before any text is read
+abbrev pub IsOfFetch : Refusal → Type 0
+IsOfFetch (CannotRead _) = Unit {0}
+IsOfFetch (TooLarge _) = Unit {0}
+IsOfFetch Memory = Unit {0}
+IsOfFetch _ = ⊥
+
 -- where the words have no options they are refused, or there was no memory to read them, and they are
 -- refused nowhere else
 abbrev pub RefusesWords : {T : Type 0} → Option Options → Result T Refusal → Type 0

@@ -1,8 +1,9 @@
-ghost use Rattle.std.specs.Prelude.{◌≡◌, ◌≢◌, ◌≤◌, length, map, All, Err, IfOk};
+//! Files by their names.
+ghost use Rattle.std.specs.Prelude.{◌≡◌, ◌≢◌, ◌≤◌, length, map, All, Err, IfErr, IfOk};
 ghost use Rattle.rc_instance.specs.declared.limits.TheConstants.{MAX_FILE_BYTES};
 ghost use Rattle.rcpsp_run.specs.declared.refusal.Refusal.TheVariants.{Words};
 ghost use Rattle.rcpsp_run.specs.Outcome.{contents};
-ghost use Rattle.rcpsp_run.specs.Causes.{Comes, IsRefusalOf};
+ghost use Rattle.rcpsp_run.specs.Causes.{Comes, IsOfFetch, IsRefusalOf};
 
 use crate::refusal::Refusal;
 use rc_edge::{FetchFault, Files, fetch_all};
@@ -10,8 +11,10 @@ use rc_instance::limits::MAX_FILE_BYTES;
 use rcpsp_words::Name;
 use std::alloc::Global;
 
-/// The texts of the files of these names, in order, each of at most the limit.
-pub(crate) fn fetch<F: Files>(
+/// The texts of the files of these names, in order, each of at most 4,194,304 bytes and by one fetch.
+///
+/// The refusal is that of the first name whose file cannot be read or is too large.
+pub fn fetch<F: Files>(
     alloc: Global,
     names: &[&str],
     files: &mut F,
@@ -35,6 +38,7 @@ pub(crate) fn fetch<F: Files>(
     ensures length { IfOk result (λ texts. All (λ text. length text.items ≤ MAX_FILE_BYTES) texts.items) }
     ensures count { IfOk result (λ texts. length texts.items ≡ length names.now) }
     ensures understood { result ≢ Err Words }
+    ensures kinds { IfErr result IsOfFetch }
 {
     match fetch_all(alloc, names, MAX_FILE_BYTES as usize, files) {
         Ok(texts) => Ok(texts),

@@ -4,7 +4,7 @@
 mod answer;
 pub mod calendar_laws;
 mod commands;
-mod fetch;
+pub mod fetch;
 mod in_memory;
 mod program;
 mod refusal;
@@ -20,5 +20,5 @@ pub use rcpsp_words::{
     Workers, read_words,
 };
 pub use refusal::Refusal;
-pub use runs::run;
+pub use runs::{run, tell};
 pub use status::Status;

@@ -237,7 +237,7 @@ fn tell_unless<N: Sink>(failed: bool, note: &mut N, line: &[u8])
 }
 
 /// Puts a line on the note; where that fails, the status stays.
-pub(crate) fn tell<N: Sink>(note: &mut N, line: &[u8])
+pub fn tell<N: Sink>(note: &mut N, line: &[u8])
     ensures tells { Tells
         (record {
           held = N.held note.old;

@@ -37,6 +37,8 @@ mod limits;
 #[cfg(test)]
 mod live;
 #[cfg(test)]
+mod many;
+#[cfg(test)]
 mod parallel;
 #[cfg(test)]
 mod sample;

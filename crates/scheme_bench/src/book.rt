@@ -6,6 +6,7 @@ use activity_net::{FeasibleList, Net};
 use book_table::Book;
 use priority_rules::list_by_number;
 use rc_edge::{Gate, NoGate, Point};
+use serial_plain::serial;
 use std::alloc::Global;
 use std::sync::atomic::{AtomicU64, Ordering};
 use std::thread::Threads;
@@ -13,8 +14,8 @@ use worker_run::book_all;
 
 const MAX_WORKERS: u32 = 64;
 
-/// So many serial schedules of the list by number, each booked by so many workers in a book of its
-/// own with its memory.
+/// So many serial schedules of the list by number, each made on a line of events and then booked by
+/// so many workers in a book, with the memory of both.
 pub(crate) fn in_books<R: Threads + Sync>(
     rt: &R,
     alloc: Global,
@@ -77,10 +78,13 @@ fn book_once<'n, R: Threads + Sync, G: Gate + Sync>(
     requires fits { HasNoMisfit list.now.network.project }
     requires workers { (1 ≤ workers) × (workers ≤ 64) }
 {
+    let Ok(known) = serial(alloc, list) else {
+        return None;
+    };
     let Ok((book, passes)) = Book::open(alloc, list, workers) else {
         return None;
     };
-    book_all(rt, book, passes, gate);
+    book_all(rt, book, passes, &known, gate);
     Some(())
 }
 

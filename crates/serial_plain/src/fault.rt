@@ -1,10 +1,10 @@
-ghost use Rattle.std.specs.Prelude.{◌≡◌};
-
 use rc_instance::{Memory, Misfit};
+use std::error::Error;
+use std::fmt;
 
-/// Why the serial scheme gives no schedule.
+/// Why a scheme gives no schedule.
 #[derive(Clone, Copy, Debug, PartialEq, Eq)]
-pub enum SerialFault {
+pub enum SchemeFault {
     /// A demand that no period can meet: of the least such activity, for its least such resource.
     Misfit(Misfit),
 
@@ -12,22 +12,40 @@ pub enum SerialFault {
     Memory,
 }
 
-impl From<Misfit> for SerialFault {
-    ghost use Rattle.serial_plain.specs.declared.fault.SerialFault.{SerialFault};
+impl fmt::Display for SchemeFault {
+    ghost use Rattle.std.specs.Prelude.{Some};
+    ghost use Rattle.serial_plain.specs.Fault.{scheme_words};
 
-    ghost from_gives = { λ misfit fault. fault ≡ SerialFault.Misfit misfit };
+    ghost output = { λ fault. Some (scheme_words fault) };
 
-    fn from(misfit: Misfit) -> Self {
-        SerialFault::Misfit(misfit)
+    fn fmt<W: fmt::Write>(&self, f: &mut fmt::Formatter<W>) -> fmt::Result {
+        match self {
+            SchemeFault::Misfit(misfit) => misfit.fmt(f),
+            SchemeFault::Memory => f.write_str("out of memory"),
+        }
     }
 }
 
-impl From<Memory> for SerialFault {
-    ghost use Rattle.serial_plain.specs.declared.fault.SerialFault.{SerialFault};
+impl Error for SchemeFault {}
 
-    ghost from_gives = { λ _ fault. fault ≡ SerialFault.Memory };
+impl From<Misfit> for SchemeFault {
+    ghost use Rattle.std.specs.Prelude.{◌≡◌};
+    ghost use Rattle.serial_plain.specs.declared.fault.SchemeFault.{SchemeFault};
+
+    ghost from_gives = { λ misfit fault. fault ≡ SchemeFault.Misfit misfit };
+
+    fn from(misfit: Misfit) -> Self {
+        SchemeFault::Misfit(misfit)
+    }
+}
+
+impl From<Memory> for SchemeFault {
+    ghost use Rattle.std.specs.Prelude.{◌≡◌};
+    ghost use Rattle.serial_plain.specs.declared.fault.SchemeFault.{SchemeFault};
+
+    ghost from_gives = { λ _ fault. fault ≡ SchemeFault.Memory };
 
     fn from(_: Memory) -> Self {
-        SerialFault::Memory
+        SchemeFault::Memory
     }
 }

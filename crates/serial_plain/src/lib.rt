@@ -28,6 +28,6 @@ mod scheme;
 #[cfg(test)]
 mod tests;
 
-pub use fault::SerialFault;
+pub use fault::SchemeFault;
 pub use on::{serial_on, serial_step};
 pub use scheme::serial;

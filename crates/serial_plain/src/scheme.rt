@@ -4,7 +4,7 @@ ghost use Rattle.rc_instance.specs.Misfit.{HasNoMisfit};
 ghost use Rattle.rc_instance.specs.Schedule.{IsFeasible, makespan, serial_schedule};
 ghost use Rattle.serial_plain.specs.Fault.{IsFault};
 
-use crate::fault::SerialFault;
+use crate::fault::SchemeFault;
 use crate::on::serial_on;
 use activity_net::FeasibleList;
 use event_line::Line;
@@ -15,7 +15,7 @@ use std::alloc::Global;
 /// (Kolisch 1996).
 ///
 /// It is refused with the first misfit, if the instance has one, and else only for want of memory.
-pub fn serial(alloc: Global, list: &FeasibleList<'_>) -> Result<Schedule, SerialFault>
+pub fn serial(alloc: Global, list: &FeasibleList<'_>) -> Result<Schedule, SchemeFault>
     ensures schedule { IfOk result (λ starts.
         starts ≡ serial_schedule list.now.network.project list.now.order) }
     ensures feasible { IfOk result (IsFeasible list.now.network.project) }

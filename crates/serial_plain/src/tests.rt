@@ -280,7 +280,7 @@ fn a_misfit_is_told(rt: HostRuntime) -> Result<(), Fail> {
     };
     assert_eq!(rt;
         serial(alloc, &list).err(),
-        Some(SerialFault::Misfit(misfit))
+        Some(SchemeFault::Misfit(misfit))
     );
     Ok(())
 }

@@ -1,4 +1,3 @@
 pub mod Descent
 pub mod Placed
-pub mod Fault
 pub mod Laws

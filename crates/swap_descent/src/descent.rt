@@ -1,15 +1,14 @@
 ghost use Rattle.std.specs.Prelude.{◌≡◌, ◌≤◌, IfOk, IfErr, OnOk};
 ghost use Rattle.rc_instance.specs.Misfit.{HasNoMisfit};
 ghost use Rattle.rc_instance.specs.Schedule.{IsFeasible, makespan, serial_schedule};
+ghost use Rattle.serial_plain.specs.Fault.{IsFault};
 ghost use Rattle.swap_descent.specs.Descent.{serial_makespan, descent};
-ghost use Rattle.swap_descent.specs.Fault.{IsFault};
 
-use crate::fault::DescentFault;
 use crate::rounds::repeat;
 use activity_net::FeasibleList;
 use event_line::Line;
 use rc_instance::{Memory, Schedule};
-use serial_plain::serial_on;
+use serial_plain::{SchemeFault, serial_on};
 use std::alloc::Global;
 use time_windows::Windows;
 
@@ -25,7 +24,7 @@ pub fn descend<'n>(
     alloc: Global,
     list: FeasibleList<'n>,
     rounds: u32,
-) -> Result<(FeasibleList<'n>, Schedule), DescentFault>
+) -> Result<(FeasibleList<'n>, Schedule), SchemeFault>
     ensures list { IfOk result (λ found. found.0 ≡ record list.entry {
       order = descent list.entry.network.project rounds list.entry.order;
     }) }

@@ -17,7 +17,6 @@
 #![tactic(auto)]
 
 mod descent;
-mod fault;
 pub mod laws;
 mod placing;
 mod rounds;
@@ -26,4 +25,3 @@ mod tests;
 mod trial;
 
 pub use descent::descend;
-pub use fault::DescentFault;

@@ -1,6 +1,7 @@
 use super::*;
 use activity_net::{FeasibleList, Net};
 use rc_instance::{Instance, Misfit, Parts, Schedule};
+use serial_plain::SchemeFault;
 use std::alloc::Global;
 use std::test::*;
 
@@ -97,7 +98,7 @@ fn a_misfit_is_refused(rt: HostRuntime) -> Result<(), Fail> {
         capacity: 0,
     };
     assert!(rt;
-        descend(alloc, first_list(alloc, &net)?, 1).err() == Some(DescentFault::Misfit(misfit))
+        descend(alloc, first_list(alloc, &net)?, 1).err() == Some(SchemeFault::Misfit(misfit))
     );
     Ok(())
 }

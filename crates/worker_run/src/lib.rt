@@ -2,15 +2,16 @@
 //!
 //! Each worker has a pass of one running book, in a thread of its own where one can be made. It
 //! draws a ticket, searches the position of it ahead of the bookings and offers what it has found,
-//! and books what is due, until a ticket is past the list; one that is alone only books. Whatever
-//! their steps and in whatever order these come, the closed book is the serial schedule. One caller,
-//! of three workers and a watch of five looks:
+//! and books what is due at its known start, until a ticket is past the list; one that is alone only
+//! books. Whatever their steps and in whatever order these come, the closed book is the serial
+//! schedule. One caller, of three workers and a watch of five looks, where `known` is the serial
+//! schedule of the list, made before on a line of events:
 //!
 //! ```text
 //! let (book, mut passes) = Book::open(alloc, &list, 4)?;
 //! let out = vec![in alloc; 0; book.positions() as usize]?;
 //! let watch = passes.pop().map(|pass| Watch { pass, times: 5, out });
-//! let ran = run_book(&rt, book, passes, &NoGate, watch, &mut note);
+//! let ran = run_book(&rt, book, passes, &known, &NoGate, watch, &mut note);
 //! let schedule = ran.closed.into_schedule();
 //! ```
 //!

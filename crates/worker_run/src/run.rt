@@ -1,5 +1,6 @@
 ghost use Rattle.std.specs.Prelude.{◌≡◌, ◌<◌, ◌≤◌, true, false, length, sum, All, MatchOption, IfSome};
-ghost use Rattle.book_rule.specs.Listed.{count};
+ghost use Rattle.rc_instance.specs.Schedule.{serial_schedule};
+ghost use Rattle.book_rule.specs.Listed.{count, project_of};
 ghost use Rattle.book_table.specs.Passes.{IsFree, AreFresh, all_of};
 ghost use Rattle.worker_run.specs.Told.{TellsLooks, TellsRun};
 ghost use Rattle.worker_run.specs.Watching.{pass_of};
@@ -9,6 +10,7 @@ use crate::watch::{Watch, look_on, tell_end};
 use crate::work::work_all;
 use book_table::{Book, Closed, Pass};
 use rc_edge::{Gate, Sink};
+use rc_instance::Schedule;
 use std::thread::{Threads, join_mut};
 
 /// A closed book, and whether a put on the watch's note failed.
@@ -20,24 +22,28 @@ pub struct Ran<'n> {
 
 /// Lets one worker for each of `passes` book all positions, and closes the book. Nobody watches.
 ///
-/// `passes` are all passes of the book as `open` made them. Each worker draws tickets, searches their
-/// positions ahead and offers what it finds, and books what is due; one that is alone only books, in
-/// the caller's thread. The gate is called at `Searched` after each search ahead, and at the points
-/// of `advance`. No memory is taken.
+/// `passes` are all passes of the book as `open` made them, and `known` is the serial schedule of its
+/// list. Each worker draws tickets, searches their positions ahead and offers what it finds, and books
+/// what is due at its known start; one that is alone only books, in the caller's thread. The gate is
+/// called at `Searched` after each search ahead, and at the points of `advance_known`. No memory is
+/// taken.
 pub fn book_all<'n, R: Threads + Sync, G: Gate + Sync>(
     rt: &R,
     book: Book<'n>,
     passes: Vec<Pass>,
+    known: &Schedule,
     gate: &G,
 ) -> Closed<'n>
     requires fresh { AreFresh book passes.items }
     requires some { 0 < length passes.items }
+    requires known { known.now
+        ≡ serial_schedule (project_of book.listing) book.listing.order }
     ensures listing { result.listing ≡ book.entry.listing }
     ensures booked { length result.booked ≡ book.entry.passes }
     ensures sum { sum result.booked ≡ count book.entry.listing }
 {
     let mut passes = passes;
-    work_all(rt, &book, gate, &mut passes);
+    work_all(rt, &book, known, gate, &mut passes);
     book.close(passes, None)
 }
 
@@ -52,6 +58,7 @@ pub fn run_book<'n, R: Threads + Sync, G: Gate + Sync, N: Sink + Send>(
     rt: &R,
     book: Book<'n>,
     passes: Vec<Pass>,
+    known: &Schedule,
     gate: &G,
     watch: Option<Watch>,
     note: &mut N,
@@ -59,6 +66,8 @@ pub fn run_book<'n, R: Threads + Sync, G: Gate + Sync, N: Sink + Send>(
     requires fresh { AreFresh book (all_of passes.items (pass_of watch)) }
     requires some { 0 < length passes.items }
     requires room { IfSome watch (λ watch. count book.listing ≤ length watch.out.items) }
+    requires known { known.now
+        ≡ serial_schedule (project_of book.listing) book.listing.order }
     ensures listing { result.closed.listing ≡ book.entry.listing }
     ensures booked { length result.closed.booked ≡ book.entry.passes }
     ensures sum { sum result.closed.booked ≡ count book.entry.listing }
@@ -70,7 +79,7 @@ pub fn run_book<'n, R: Threads + Sync, G: Gate + Sync, N: Sink + Send>(
 {
     let Some(watch) = watch else {
         return Ran {
-            closed: book_all(rt, book, passes, gate),
+            closed: book_all(rt, book, passes, known, gate),
             note_failed: false,
         };
     };
@@ -84,6 +93,7 @@ pub fn run_book<'n, R: Threads + Sync, G: Gate + Sync, N: Sink + Send>(
     let failed = work_and_look_on(
         rt,
         &book,
+        known,
         gate,
         &mut passes,
         &mut pass,
@@ -102,6 +112,7 @@ pub fn run_book<'n, R: Threads + Sync, G: Gate + Sync, N: Sink + Send>(
 fn work_and_look_on<R: Threads + Sync, G: Gate + Sync, N: Sink + Send>(
     rt: &R,
     book: &Book<'_>,
+    known: &Schedule,
     gate: &G,
     passes: &mut [Pass],
     pass: &mut Pass,
@@ -112,6 +123,8 @@ fn work_and_look_on<R: Threads + Sync, G: Gate + Sync, N: Sink + Send>(
     requires workers { All (IsFree book.now) passes.old }
     requires watch { IsFree book.now pass.old }
     requires room { count book.now.listing ≤ length out.old }
+    requires known { known.now
+        ≡ serial_schedule (project_of book.now.listing) book.now.listing.order }
     ensures workers { All (IsFree book.now) passes.new }
     ensures rest { All (λ pass. pass.view.resting ≡ true) passes.new }
     ensures go { AllGoOn passes.old passes.new }
@@ -126,8 +139,10 @@ fn work_and_look_on<R: Threads + Sync, G: Gate + Sync, N: Sink + Send>(
     let (_, failed) = join_mut(
         rt,
         &mut ||
-            requires { All (IsFree book.now) passes.now }
-        { work_all(rt, book, gate, passes) },
+            requires workers { All (IsFree book.now) passes.now }
+            requires known { known.now
+                ≡ serial_schedule (project_of book.now.listing) book.now.listing.order }
+        { work_all(rt, book, known, gate, passes) },
         &mut || look_on(book, pass, times, out, note),
     );
     failed

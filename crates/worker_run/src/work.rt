@@ -1,11 +1,13 @@
 ghost use Rattle.std.specs.Prelude.{◌≡◌, ◌+◌, ◌<◌, ◌≤◌, true, All};
-ghost use Rattle.book_rule.specs.Listed.{count};
+ghost use Rattle.rc_instance.specs.Schedule.{serial_schedule};
+ghost use Rattle.book_rule.specs.Listed.{count, project_of};
 ghost use Rattle.book_table.specs.Passes.{IsFree};
 ghost use Rattle.worker_run.specs.Works.{GoesOn, DrawsNone, DrawsAll, AllGoOn};
 
 use book_table::{Book, Pass};
-use ordered_book::advance;
+use ordered_book::advance_known;
 use rc_edge::{Gate, Point};
+use rc_instance::Schedule;
 use spec_search::{Guess, draw, offer, speculate};
 use std::thread;
 use std::thread::Threads;
@@ -29,8 +31,10 @@ fn search_ahead<G: Gate>(book: &Book<'_>, pass: &mut Pass, position: u32, gate: 
 //
 // The tickets of a book wrap after so many that no run draws them; a worker ends its rounds all the
 // same once it has drawn one more than there are positions.
-fn search_and_book<G: Gate>(book: &Book<'_>, pass: &mut Pass, gate: &G)
+fn search_and_book<G: Gate>(book: &Book<'_>, pass: &mut Pass, known: &Schedule, gate: &G)
     requires own { IsFree book.now pass.old }
+    requires known { known.now
+        ≡ serial_schedule (project_of book.now.listing) book.now.listing.order }
     ensures own { IsFree book.now pass.new }
     ensures draws { DrawsAll book.now.listing pass.old.view pass.new.view }
 {
@@ -39,32 +43,37 @@ fn search_and_book<G: Gate>(book: &Book<'_>, pass: &mut Pass, gate: &G)
             return;
         };
         search_ahead(book, pass, position, gate);
-        advance(book, pass, gate);
+        advance_known(book, pass, known, gate);
     }
 }
 
 // The work of one pass: at the end it rests. One that is alone only books, since a search ahead would
 // help nobody else.
-fn work<G: Gate>(book: &Book<'_>, pass: &mut Pass, alone: bool, gate: &G)
+fn work<G: Gate>(book: &Book<'_>, pass: &mut Pass, known: &Schedule, alone: bool, gate: &G)
     requires own { IsFree book.now pass.old }
+    requires known { known.now
+        ≡ serial_schedule (project_of book.now.listing) book.now.listing.order }
     ensures own { IsFree book.now pass.new }
     ensures rests { pass.new.view.resting ≡ true }
     ensures goes { GoesOn pass.old.view pass.new.view }
 {
     if !alone {
-        search_and_book(book, pass, gate);
+        search_and_book(book, pass, known, gate);
     }
-    advance(book, pass, gate);
+    advance_known(book, pass, known, gate);
 }
 
 // The work of all passes, each in a thread of its own where one can be made.
 pub(crate) fn work_all<R: Threads + Sync, G: Gate + Sync>(
     rt: &R,
     book: &Book<'_>,
+    known: &Schedule,
     gate: &G,
     passes: &mut [Pass],
 )
     requires own { All (IsFree book.now) passes.old }
+    requires known { known.now
+        ≡ serial_schedule (project_of book.now.listing) book.now.listing.order }
     ensures own { All (IsFree book.now) passes.new }
     ensures rest { All (λ pass. pass.view.resting ≡ true) passes.new }
     ensures go { AllGoOn passes.old passes.new }
@@ -75,6 +84,6 @@ pub(crate) fn work_all<R: Threads + Sync, G: Gate + Sync>(
         rt,
         passes,
         threads,
-        &|_, pass: &mut Pass| { work(book, pass, alone, gate) },
+        &|_, pass: &mut Pass| { work(book, pass, known, alone, gate) },
     );
 }

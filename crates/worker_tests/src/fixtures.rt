@@ -1,11 +1,13 @@
 ghost use Rattle.std.specs.Prelude.{◌≡◌, IfOk};
 ghost use Rattle.rc_instance.specs.Misfit.{HasNoMisfit};
+ghost use Rattle.rc_instance.specs.Schedule.{serial_schedule};
 ghost use Rattle.book_table.specs.Passes.{IsFree};
 
 use activity_net::{FeasibleList, Net};
 use book_table::{Book, Closed, Pass};
 use patterson_read::read_rcp;
-use rc_instance::Instance;
+use rc_instance::{Instance, Schedule};
+use serial_plain::serial;
 use std::alloc::Global;
 use std::process::Abort;
 use std::test::*;
@@ -46,6 +48,14 @@ pub(crate) fn by_number<'n>(alloc: Global, net: &'n Net) -> Result<FeasibleList<
         order.push(activity)?;
     }
     Ok(FeasibleList::of(alloc, net, &order)?)
+}
+
+// The serial schedule of a list, made on a line of events.
+pub(crate) fn known_of(alloc: Global, list: &FeasibleList<'_>) -> Result<Schedule, Fail>
+    ensures { IfOk result (λ starts.
+        starts ≡ serial_schedule list.now.network.project list.now.order) }
+{
+    Ok(serial(alloc, list)?)
 }
 
 // A new book of a list, and its two passes.

@@ -1,5 +1,5 @@
 // Two workers that really run beside each other.
-use crate::fixtures::{SIX, SIX_STARTS, by_number, net_of, six_starts};
+use crate::fixtures::{SIX, SIX_STARTS, by_number, known_of, net_of, six_starts};
 use book_table::Book;
 use rc_edge::{Gate, Point};
 use std::sync::atomic::{AtomicU64, Ordering};
@@ -89,9 +89,10 @@ fn are_ones(counts: &[AtomicU64]) -> bool {
 fn two_workers_meet_and_book_each_position_once(rt: HostRuntime) -> Result<(), Fail> {
     let net = net_of(rt.alloc(), SIX)?;
     let list = by_number(rt.alloc(), &net)?;
+    let known = known_of(rt.alloc(), &list)?;
     let (book, passes) = Book::open(rt.alloc(), &list, 2)?;
     let meeting = Meeting::new();
-    let closed = book_all(&rt, book, passes, &meeting);
+    let closed = book_all(&rt, book, passes, &known, &meeting);
     assert_eq!(rt; six_starts(&rt, closed), SIX_STARTS);
     assert_eq!(rt; meeting.alone.load(Ordering::SeqCst), 0);
     assert!(rt; are_ones(&meeting.claimed) && are_ones(&meeting.booked));

@@ -3,7 +3,7 @@ ghost use Rattle.std.specs.Prelude.{Some};
 ghost use Rattle.rc_instance.specs.Misfit.{HasNoMisfit};
 ghost use Rattle.rc_edge.specs.MemSink.{bytes_of, faults_of};
 
-use crate::fixtures::{SIX, SIX_STARTS, by_number, net_of, six_starts};
+use crate::fixtures::{SIX, SIX_STARTS, by_number, known_of, net_of, six_starts};
 use activity_net::FeasibleList;
 use book_table::Book;
 use rc_edge::{Gate, MemSink, Point, Sink, SinkFault};
@@ -83,6 +83,7 @@ fn watched<'n, R: Threads + Sync>(
 ) -> Result<Ran<'n>, Fail>
     requires { HasNoMisfit list.now.network.project }
 {
+    let known = known_of(alloc, list)?;
     let (book, mut passes) = Book::open(alloc, list, 2)?;
     let out = vec![in alloc; 0; book.positions() as usize]?;
     let Some(pass) = passes.pop() else {
@@ -93,7 +94,7 @@ fn watched<'n, R: Threads + Sync>(
         times: 2,
         out,
     };
-    Ok(run_book(rt, book, passes, third, Some(watch), note))
+    Ok(run_book(rt, book, passes, &known, third, Some(watch), note))
 }
 
 #[test]

@@ -5,8 +5,9 @@ ghost use Rattle.rcpsp_run.specs.Steps.Descent.{descended_if};
 use crate::refusal::Refusal;
 use activity_net::FeasibleList;
 use rcpsp_words::Rounds;
+use serial_plain::SchemeFault;
 use std::alloc::Global;
-use swap_descent::{DescentFault, descend};
+use swap_descent::descend;
 
 /// The list after the rounds that are asked for, or else the list itself.
 pub(crate) fn descended_if<'n>(
@@ -38,7 +39,7 @@ fn descended<'n>(
 {
     match descend(alloc, list, rounds.count()) {
         Ok((list, _)) => Ok(list),
-        Err(DescentFault::Misfit(misfit)) => Err(Refusal::Misfit(misfit)),
-        Err(DescentFault::Memory) => Err(Refusal::Memory),
+        Err(SchemeFault::Misfit(misfit)) => Err(Refusal::Misfit(misfit)),
+        Err(SchemeFault::Memory) => Err(Refusal::Memory),
     }
 }

@@ -6,7 +6,7 @@ ghost use Rattle.rc_instance.specs.Schedule.{makespan, serial_schedule, IsFeasib
 ghost use Rattle.book_table.specs.Passes.{AreFresh};
 ghost use Rattle.worker_run.specs.Told.{TellsRun};
 
-use crate::steps::serial::schedule_in;
+use crate::steps::serial::{known_serial, schedule_in};
 use activity_net::FeasibleList;
 use book_table::{Book, Pass};
 use rc_edge::{Gate, Sink};
@@ -45,8 +45,9 @@ pub(crate) fn live_serial<'n, R: Threads + Sync, N: Sink + Send, G: Gate + Sync>
 {
     let activities = list.net().instance().count();
     let workers = workers.count().min(activities);
+    let known = known_serial(alloc, list)?;
     let (book, passes, watch) = watched_book(alloc, list, workers, live)?;
-    let ran = run_book(rt, book, passes, gate, Some(watch), note);
+    let ran = run_book(rt, book, passes, &known, gate, Some(watch), note);
     *failed = ran.note_failed;
     Ok(schedule_in(list, ran.closed))
 }

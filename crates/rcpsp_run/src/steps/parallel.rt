@@ -7,8 +7,9 @@ ghost use Rattle.rcpsp_run.specs.Steps.Parallel.{parallel_scheduled};
 
 use crate::refusal::Refusal;
 use activity_net::FeasibleList;
-use parallel_scheme::{ParallelFault, parallel};
+use parallel_scheme::parallel;
 use rc_instance::Schedule;
+use serial_plain::SchemeFault;
 use std::alloc::Global;
 
 /// The parallel schedule of a list, where no demand is a misfit.
@@ -26,7 +27,7 @@ pub(crate) fn parallel_scheduled(
 {
     match parallel(alloc, list) {
         Ok(schedule) => Ok(schedule),
-        Err(ParallelFault::Misfit(misfit)) => Err(Refusal::Misfit(misfit)),
-        Err(ParallelFault::Memory) => Err(Refusal::Memory),
+        Err(SchemeFault::Misfit(misfit)) => Err(Refusal::Misfit(misfit)),
+        Err(SchemeFault::Memory) => Err(Refusal::Memory),
     }
 }

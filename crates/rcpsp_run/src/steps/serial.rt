@@ -6,9 +6,11 @@ ghost use Rattle.rc_instance.specs.Schedule.{makespan, serial_schedule, IsFeasib
 
 use activity_net::FeasibleList;
 use book_table::{Book, Closed};
+use event_line::Line;
 use rc_edge::Gate;
 use rc_instance::{Memory, Schedule};
 use rcpsp_words::Workers;
+use serial_plain::serial_on;
 use std::alloc::Global;
 use std::thread::Threads;
 use worker_run::book_all;
@@ -66,6 +68,22 @@ fn booked<'n, R: Threads + Sync, G: Gate + Sync>(
     requires workers { (1 ≤ workers) × (workers ≤ 64) }
     ensures { IfOk result (λ closed. closed.listing ≡ list.entry.now) }
 {
+    let known = known_serial(alloc, list)?;
     let (book, passes) = Book::open(alloc, list, workers)?;
-    Ok(book_all(rt, book, passes, gate))
+    Ok(book_all(rt, book, passes, &known, gate))
+}
+
+/// The serial schedule of a list, of an instance without a misfit, made on a line of events.
+///
+/// With it the workers need not search the start of a position that they book.
+pub(crate) fn known_serial(alloc: Global, list: &FeasibleList<'_>) -> Result<Schedule, Memory>
+    requires { HasNoMisfit list.now.network.project }
+    ensures { IfOk result (λ starts.
+        starts ≡ serial_schedule list.now.network.project list.now.order) }
+{
+    let instance = list.net().instance();
+    let mut line = Line::new(alloc, instance)?;
+    let mut schedule = Schedule::zero(alloc, instance.count())?;
+    serial_on(list, &mut line, &mut schedule);
+    Ok(schedule)
 }

@@ -3,7 +3,7 @@ use Rattle.std.proofs.lemmas.List.{length-map}
 use Rattle.rc_edge.specs.Faults.{counted_on}
 use Rattle.rc_edge.specs.Fetches.{HasReason}
 use Rattle.rcpsp_run.specs.Causes.{FilesAt, FetchesAtMost}
-use Rattle.rcpsp_run.proofs.CauseLaws.{names_now, contents-files, found_there, has_cause, explains_refused}
+use Rattle.rcpsp_run.proofs.CauseLaws.{names_now, contents-files, found_there, has_cause, explains_refused, of_fetch}
 use Rattle.rcpsp_run.proofs.FetchCounts.{fetches-all, fetches-up_to}
 use Rattle.rcpsp_run.proofs.RunLaws.{IfSome-implied, IfSome-both}
 use Rattle.rcpsp_run.proofs.fetch.fetch.Goals as goal
@@ -64,3 +64,6 @@ returns-in-Err-clause-comes g c =
           (λ large. rw found.0 at (both.1 large)) c.refusal_of.ensures)
           (IfSome-both told _ _ refused.before refused.beyond);
     }
+
+pub returns-in-Err-clause-kinds : goal.returns-in-Err-clause-kinds
+returns-in-Err-clause-kinds g c = of_fetch _ c.in-Err.fault c.refusal_of.result c.refusal_of.ensures

@@ -88,6 +88,8 @@ invariant_of-book c =
       width_is = numbers.width_is;
       horizon_is = numbers.horizon_is;
       places_are = c.in_ok-places.ensures;
+      needs_are = c.in_ok-needs.ensures;
+      rooms_are = c.in_ok-rooms.ensures;
       some = omega (arith, c.requires.passes);
       counts = ap length (c.in_ok-counts.ensures.items_if_clones_equal (λ y e. e))
           ∙ length-replicate c.args.passes 0;

@@ -15,7 +15,7 @@ split_seat-seat-requires c =
     let few = c.requires.few in
     let made = c.requires.first.made_is in (
       c.requires.own.own.table,
-      omega (arith, race.two),
+      omega (arith, race.wide),
       over_table race (λ words from. Splits (RaceRule words from) seat.id v (with_another v)
           (another v))
           (subst (λ (id : ℕ). Splits (RaceRule (words_of race.terms) race.terms.from) id v (with_another v) (another v))

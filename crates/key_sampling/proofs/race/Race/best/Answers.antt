@@ -1,8 +1,7 @@
 use Rattle.std.proofs.Common.{◌≡◌, ℕ, List, slice_index, refl, ap, ◌∙◌, subst, arith}
 use lib.ListN.{get_elem?}
 use Rattle.atomic_table.specs.Table.{Seen}
-use Rattle.race_rule.specs.Rule.{RaceRule}
-use Rattle.race_rule.specs.Rule.{IsLeastWord}
+use Rattle.race_rule.specs.Rule.{best_word, RaceRule, IsLeastWord}
 use Rattle.race_rule.proofs.Ends.{finishes}
 use Rattle.key_sampling.specs.Words.{words_of}
 use Rattle.key_sampling.proofs.WordLaws.{best-of-words}
@@ -25,8 +24,8 @@ returns c =
     id v state) c.requires.first last.1) in
     let least = finishes (words_of race.terms) race.terms.from state v held c.requires.own.alive
     c.requires.ended c.requires.all in
-    let word : slice_index state.words 1 ≡ c.word-best.result =
-    read_at state.words 1 c.word-best.result
-    (ap (λ (ws : List ℕ). get_elem? ws 1) last.2 ∙ c.word-best.ensures) in
+    let word : slice_index state.words best_word ≡ c.word-best.result =
+    read_at state.words best_word c.word-best.result
+    (ap (λ (ws : List ℕ). get_elem? ws best_word) last.2 ∙ c.word-best.ensures) in
     best-of-words race.terms c.word-best.result _ race.within
     (subst (IsLeastWord (words_of race.terms)) word least) refl refl

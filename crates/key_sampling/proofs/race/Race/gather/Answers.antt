@@ -17,7 +17,7 @@ join_seat-requires c =
       c.requires.own.table,
       c.requires.other.table,
       c.requires.other.empty,
-      omega (arith, race.two),
+      omega (arith, race.wide),
       over_table race (λ words from. Joins (RaceRule words from) seat.id v other.id w
           (with_gathered v w) blank)
           (subst (λ (id : ℕ). Joins (RaceRule (words_of race.terms) race.terms.from) id v other.id w

@@ -3,7 +3,7 @@ use Rattle.std.specs.Option.{option_map}
 use mathlib.Core.Option.{none}
 use Rattle.atomic_table.specs.Table.{step, Allows}
 use Rattle.race_rule.specs.declared.view.SeekerView.{SeekerView}
-use Rattle.race_rule.specs.Rule.{RaceRule}
+use Rattle.race_rule.specs.Rule.{ticket_word, RaceRule}
 use Rattle.race_rule.specs.Plays.{IsTaking}
 use Rattle.race_rule.proofs.Steps.{takes}
 use Rattle.key_sampling.proofs.WordLaws.{length-words_of}
@@ -17,9 +17,9 @@ fetch_add-ticket-requires c =
     let seat = c.args.seeker.now.seat in
     let slots = race.table.shared.table_id.slots in (
       c.requires.own.table,
-      omega (arith, race.two),
-      over_table race (λ words from. Allows (RaceRule words from) slots seat.id seat.me 0
-          (λ n. (n + 1) % 2 ^ 64) (IsTaking (step slots 0 1 0 none) seat.me))
+      omega (arith, race.wide),
+      over_table race (λ words from. Allows (RaceRule words from) slots seat.id seat.me ticket_word
+          (λ n. (n + 1) % 2 ^ 64) (IsTaking (step slots ticket_word 1 0 none) seat.me))
           (takes (words_of race.terms) race.terms.from slots seat.id seat.me c.requires.own.alive
           (none_in_hand seat.me.0 c.requires.idle) c.requires.going),
     )

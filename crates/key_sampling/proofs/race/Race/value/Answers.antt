@@ -2,7 +2,7 @@ use Rattle.std.proofs.Common.{◌≡◌, ℕ, ◌+◌, ◌<◌, min, slice_index
 use Rattle.std.specs.Option.{option_map}
 use mathlib.Core.Option.{none}
 use Rattle.atomic_table.specs.Table.{step, Allows}
-use Rattle.race_rule.specs.Rule.{RaceRule}
+use Rattle.race_rule.specs.Rule.{best_word, RaceRule}
 use Rattle.race_rule.specs.Plays.{IsValuing}
 use Rattle.race_rule.proofs.Steps.{values}
 use Rattle.key_sampling.specs.Words.{word_of, words_of}
@@ -32,9 +32,9 @@ fetch_min-found-requires c =
     c.word_of-word.ensures ∙ (ap (λ (m : ℕ). word_of m sample) makespan
     ∙ sym (word_in_hand race v ticket sample own.from within held.2)) in (
       own.table,
-      omega (arith, race.two),
-      over_table race (λ words from. Allows (RaceRule words from) slots seat.id seat.me 1
-          (λ n. min n word) (IsValuing (step slots 1 word 0 none) seat.me))
+      omega (arith, race.wide),
+      over_table race (λ words from. Allows (RaceRule words from) slots seat.id seat.me best_word
+          (λ n. min n word) (IsValuing (step slots best_word word 0 none) seat.me))
           (values (words_of race.terms) race.terms.from slots seat.id word ticket seat.me own.alive
           held.1 is),
     )

@@ -1,8 +1,8 @@
 use Rattle.std.proofs.Common.{Ok, ap, sym, subst, ◌∙◌}
 use Rattle.activity_net.specs.Network.{Listing}
-use Rattle.swap_descent.specs.declared.fault.DescentFault.TheVariants.{Misfit}
+use Rattle.serial_plain.specs.declared.fault.SchemeFault.TheVariants.{Misfit}
+use Rattle.serial_plain.specs.Fault.{IsFault}
 use Rattle.swap_descent.specs.Descent.{descent}
-use Rattle.swap_descent.specs.Fault.{IsFault}
 use Rattle.rcpsp_run.proofs.DescendedLaws.{descended-misfit, descended-fits}
 use Rattle.rcpsp_run.proofs.steps.descent.descended.Goals as goal
 

@@ -14,7 +14,12 @@ returns-clause-told g c =
     tells-same _ _ _ _ (faults c.args.note.now) (faults ran.new.note) (held c.args.note.now)
     (held ran.new.note) ran.result.note_failed all c.in_ok-book.ensures.times ran.ensures.told
 
-pub returns-in_err-book-clause-kept : goal.returns-in_err-book-clause-kept
-returns-in_err-book-clause-kept g c =
+pub returns-in_err-known-clause-kept : goal.returns-in_err-known-clause-kept
+returns-in_err-known-clause-kept g c =
     MatchResult-from_err c.from_residual.result _ _ c.from_residual.ensures.0
     (λ _. (refl, c.requires.well))
+
+pub returns-in_err-book-clause-kept : goal.returns-in_err-book-clause-kept
+returns-in_err-book-clause-kept g c =
+    MatchResult-from_err c.from_residual-in_err-book.result _ _
+    c.from_residual-in_err-book.ensures.0 (λ _. (refl, c.requires.well))

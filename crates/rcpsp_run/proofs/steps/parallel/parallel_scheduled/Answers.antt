@@ -1,7 +1,7 @@
 use Rattle.std.proofs.Common.{Ok, ap, sym, subst, ◌∙◌}
 use Rattle.rc_instance.specs.Results.{◌>>=◌}
 use Rattle.rc_instance.proofs.MisfitLaws.{first_misfit-is, first_misfit-none}
-use Rattle.parallel_scheme.specs.Fault.{IsFault}
+use Rattle.serial_plain.specs.Fault.{IsFault}
 use Rattle.parallel_scheme.specs.Parallel.{parallel_schedule}
 use Rattle.rcpsp_run.specs.Steps.Parallel.{parallel_scheduled}
 use Rattle.rcpsp_run.specs.Steps.Schedule.{without_misfit}

@@ -1,0 +1,9 @@
+pub mod ManyLaws
+pub mod AloneCases
+pub mod QuietLaws
+pub mod RoomLaws
+pub mod AloneLaws
+pub mod JoinLaws
+pub mod ComesLaws
+pub mod WrittenLaws
+pub mod RefusedLaws
