@@ -6,9 +6,9 @@ Counts are of callgrind, and are of twice so many rounds less so many, divided; 
 several runs. Prints tables: of a sample, by size and durations, with the ratio of each figure to that of C++; of its
 parts in instructions; of our cost with all durations a hundred times as long, or as many times as the limits leave; of
 one whole `rcpsp schedule`; of one sample of `rcpsp sample`, where samples that cannot be the best are given up, and
-where each is valued; and how many samples so many workers try in a second, by the clock and of one processor's time,
-with what more workers and giving up bring. Words after the script's name choose tables: sample parts long whole command
-workers.
+where each is valued; how many samples so many workers try in a second, by the clock and of one processor's time, with
+what more workers and giving up bring; and what giving up brings on ten instances of each size, in instructions. Words
+after the script's name choose tables: sample parts long whole command workers gives.
 
 usage: python3 benches/sample.py [TABLE..]       (builds the programs; needs valgrind and g++)
 """
@@ -129,8 +129,21 @@ def workers_table(_, path):
             row(f"{activities + 2:,}", str(workers), *cells, f"{rates[0] / rates[1]:.2f}")
 
 
+def gives_table(_, path):
+    head("activities", "least", "mean", "most")
+    for activities, resources, rounds in SIZES[:3]:
+        brings = []
+        for seed in range(1, 11):
+            path.write_text(instance(activities, resources, 10, seed=seed))
+            best, all_of = (instructions([program, mode, 100 * rounds, path, *more])
+                            - instructions([program, mode, 50 * rounds, path, *more])
+                            for mode, *more in (("best", 1), ("values",)))
+            brings.append(all_of / best)
+        row(f"{activities + 2:,}", *(f"{of:.2f}" for of in (min(brings), sum(brings) / len(brings), max(brings))))
+
+
 TABLES = {"sample": sample_table, "parts": parts_table, "long": long_table, "whole": whole_table,
-          "command": command_table, "workers": workers_table}
+          "command": command_table, "workers": workers_table, "gives": gives_table}
 with tempfile.TemporaryDirectory() as folder:
     program = bench("scheme_bench", "line", "1", "data/e1.rcp")
     theirs = compiled("sample.cpp", folder)

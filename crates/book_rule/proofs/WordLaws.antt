@@ -45,7 +45,7 @@ place-row n p = omega arith
 
 -- a profile word stands before the floors, and a floor before the end
 pub profile_word-inside : (list : Listing) (p w : ℕ) → p < horizon_of list → w < width list
-    → profile_word list p w < 2 + (count list + (count list + cells list))
+    → profile_word list p w < 32 + (count list + (count list + cells list))
 unfolding cells
 profile_word-inside list p w row column =
     omega (arith, place-inside (width list) (horizon_of list) p w column row)

@@ -1,5 +1,5 @@
 -- The passes of a book that closes: each is taken in after those before it, and at the end all are.
-use Rattle.std.proofs.Common.{◌≡◌, ℕ, ◌+◌, ◌<◌, true, List, [], ◌∷◌, ◌++◌, length, take, slice_set, slice_index_or, Option, None, Some, IsSome, IfSome, refl, sym, ap, subst, ◌∙◌, arith, append_assoc, append-nil, length-append, length-set, take_all}
+use Rattle.std.proofs.Common.{◌≡◌, ℕ, ◌+◌, ◌<◌, true, List, [], ◌∷◌, ◌++◌, length, take, slice_set, slice_index_or, Option, None, Some, IsSome, IfSome, refl, sym, ap, subst, ◌∙◌, arith, append_assoc, length-append, length-set, take_all}
 use Rattle.std.proofs.lemmas.List.{length_push}
 use Rattle.std.proofs.lemmas.List.Sums.{sum_by-cons}
 use Rattle.std.specs.List.{sum}
@@ -9,7 +9,7 @@ use Rattle.activity_net.specs.Network.{Listing}
 use Rattle.book_rule.specs.declared.view.View.{View}
 use Rattle.book_rule.specs.Listed.{count}
 use Rattle.book_rule.specs.Knowledge.{IsOwn}
-use Rattle.book_rule.specs.Views.{after_join, weight}
+use Rattle.book_rule.specs.Views.{after_join}
 use Rattle.book_rule.specs.Rule.{Rule, IsComplete}
 use Rattle.book_rule.proofs.SeatLaws.{completes}
 use Rattle.book_table.specs.declared.closing.Taken.{Taken}
@@ -17,7 +17,7 @@ use Rattle.book_table.specs.declared.book.Book.TheInside.{Inside as InsideBook}
 use Rattle.book_table.specs.BookView.{book_of, KeepsBook}
 use Rattle.book_table.specs.Passes.{RunningBook, PassToken, IsPassOf, AreAtRest, all_of}
 use Rattle.book_table.specs.Taken.{counts_of, IsChief, IsTaking}
-use Rattle.book_table.proofs.TakenLaws.{IsChiefAt, seat_push, counts_push, chief-long}
+use Rattle.book_table.proofs.TakenLaws.{seat_push, counts_push, chief-long}
 
 -- what holds of a value that may be there
 pub if_some : {X : Type 0} (P Q : X → Type 0) (o : Option X) → ((x : X) → P x → Q x) → IfSome o P

@@ -1,8 +1,8 @@
 -- A complete book: its start words give the serial schedule, and its levels what that schedule
 -- uses.
-use Rattle.std.proofs.Common.{◌≡◌, ℕ, ◌+◌, ◌-◌, ◌*◌, ◌/◌, ◌%◌, ◌<◌, ◌≤◌, List, length, take, get_or, slice_index, true, false, nat_lt, if◌then◌else◌, refl, sym, ap, subst, ◌∙◌, arith, ext_get_or, take_all}
+use Rattle.std.proofs.Common.{◌≡◌, ℕ, ◌+◌, ◌-◌, ◌*◌, ◌/◌, ◌%◌, ◌<◌, List, length, slice_index, true, nat_lt, sym, ap, ◌∙◌, arith, ext_get_or, take_all}
 use Rattle.std.proofs.lemmas.Bool.Decides.{nat_tests}
-use Rattle.rc_instance.specs.Project.{Project, IsResource, resource_count}
+use Rattle.rc_instance.specs.Project.{IsResource, resource_count}
 use Rattle.rc_instance.specs.Order.{IsFeasibleList}
 use Rattle.rc_instance.specs.Usage.{usage}
 use Rattle.rc_instance.specs.Serial.{serial_bookings}
@@ -16,7 +16,7 @@ use Rattle.book_table.proofs.FillLaws.{IsFilled, filled_at}
 
 -- what the start word of a position holds
 pub start_read : (list : Listing) (words : List ℕ) (i x : ℕ) → IsBookable list
-    → IsComplete list words → i < count list → x ≡ slice_index words (2 + i)
+    → IsComplete list words → i < count list → x ≡ slice_index words (32 + i)
     → (x ≡ begins list i + 1) × (begins list i < 131071)
 start_read list words i x bookable complete below is =
     let ends = begins-ends list bookable i below in

@@ -32,11 +32,11 @@ numbers_are list project positions resources periods feasible same count_is reso
 
 -- and so is how many words it has
 pub total_is : (list : Listing) (n w h total : ℕ) → AreNumbers list n w h
-    → total ≡ 2 + (n + (n + (place w h 0 + place w ((h + 31) / 32) 0))) → total ≡ word_count list
+    → total ≡ 32 + (n + (n + (place w h 0 + place w ((h + 31) / 32) 0))) → total ≡ word_count list
 unfolding blocks
 total_is list n w h total are is =
     let columns = are.width_is in
     let positions = are.count_is in
     let rows = are.horizon_is in
-    is ∙ (λ k. 2 + (positions k + (positions k
+    is ∙ (λ k. 32 + (positions k + (positions k
     + (place (columns k) (rows k) 0 + place (columns k) ((rows k + 31) / 32) 0))))

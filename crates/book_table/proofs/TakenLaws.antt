@@ -1,14 +1,12 @@
 -- The passes of a closing book, taken in one after the other.
-use Rattle.std.proofs.Common.{◌≡◌, ℕ, ◌+◌, ◌<◌, ◌≤◌, true, false, List, [], ◌∷◌, ◌++◌, length, take, map, slice_set, Option, None, Some, IsSome, IfSome, refl, sym, ap, subst, ◌∙◌, arith}
+use Rattle.std.proofs.Common.{◌≡◌, ℕ, ◌+◌, ◌<◌, true, false, List, [], ◌∷◌, ◌++◌, length, take, slice_set, Option, None, Some, IsSome, IfSome, refl, sym, ap, subst, ◌∙◌, arith}
 use Rattle.std.proofs.lemmas.List.{length_push, length-map, take_more_set, map-append}
-use Rattle.std.specs.List.{sum}
 use Rattle.atomic_table.specs.Seated.{TableId}
 use Rattle.book_rule.specs.declared.view.View.{View}
 use Rattle.book_rule.specs.Views.{after_join}
-use Rattle.book_rule.specs.Knowledge.{IsOwn}
 use Rattle.book_rule.proofs.SeatLaws.{joined_own}
 use Rattle.book_table.specs.Passes.{RunningBook, PassToken, IsPassOf}
-use Rattle.book_table.specs.Taken.{counts_of, IsChief, IsTaking}
+use Rattle.book_table.specs.Taken.{counts_of, IsChief}
 
 none_there : (X : Type 0) → IsSome {T = X} None → ⊥
 none_there X is = let no : false ≡ true = is in cc

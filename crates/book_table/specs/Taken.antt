@@ -1,5 +1,5 @@
 -- What a closing book has taken in: the seat of pass 0, and how many bookings each pass has made.
-use Rattle.std.specs.Prelude.{◌≡◌, ℕ, ◌<◌, true, List, [], ◌∷◌, length, take, map, Option, None, IsSome, IfSome}
+use Rattle.std.specs.Prelude.{◌≡◌, ℕ, ◌<◌, true, List, [], ◌∷◌, length, take, map, None, IsSome, IfSome}
 use Rattle.atomic_table.specs.Seated.{TableId}
 use Rattle.book_rule.specs.declared.view.View.{View}
 use Rattle.book_rule.specs.Knowledge.{IsOwn}

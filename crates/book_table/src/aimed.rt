@@ -11,6 +11,7 @@ use crate::pass::Pass;
 use crate::plays::{
     Aim, Begin, ClaimKnown, LoadFloor, LoadOffer, LoadProfile, LoadStart, RaiseOffer,
 };
+use crate::sizes::FIRST_START;
 use book_rule::{Hand, Offer, Reach, Search};
 
 const NONE: Reach = Reach {
@@ -110,7 +111,7 @@ impl<'n> Book<'n> {
         let word = self
             .table
             .shared
-            .load::<LoadStart<A>>(&mut pass.seat, 2 + position as usize);
+            .load::<LoadStart<A>>(&mut pass.seat, FIRST_START + position as usize);
         pass.search = self.after_start(pass.search, position, word);
         word
     }

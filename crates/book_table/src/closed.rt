@@ -7,7 +7,7 @@ ghost use Rattle.book_rule.specs.Listed.{count, width, horizon_of, level, projec
 ghost use Rattle.book_table.specs.Passes.{ClosedBook};
 
 use crate::shut::Shut;
-use crate::sizes::place;
+use crate::sizes::{FIRST_START, place};
 use activity_net::FeasibleList;
 use rc_instance::Schedule;
 use std::marker::Model;
@@ -54,7 +54,7 @@ impl<'n> Closed<'n> {
         ensures lanes { (l : ℕ) → l < 4 → lane_of result l ≡ level self.now.listing (count self.now.listing) index l period }
         ensures usage { (k : ℕ) → IsResource (project_of self.now.listing) k → (k - 1) / 4 ≡ index → lane_of result ((k - 1) % 4) ≡ usage (project_of self.now.listing) (bookings_of (serial_schedule (project_of self.now.listing) self.now.listing.order)) k period }
     {
-        let first = 2 + 2 * self.positions as usize;
+        let first = FIRST_START + 2 * self.positions as usize;
         self.shut.at(first + place(self.words, period, index))
     }
 

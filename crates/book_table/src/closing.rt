@@ -14,6 +14,7 @@ use crate::pass::Pass;
 use crate::plays::Gather;
 use crate::rule::BookRule;
 use crate::shut::Shut;
+use crate::sizes::FIRST_START;
 use activity_net::FeasibleList;
 use atomic_table::{Seat, Shared};
 use book_rule::View;
@@ -107,7 +108,7 @@ fn read_starts(shut: &Shut, list: &FeasibleList<'_>, schedule: &mut Schedule)
 {
     let order = list.order();
     for position in 0..order.len() {
-        let start = shut.at(2 + position) - 1;
+        let start = shut.at(FIRST_START + position) - 1;
         schedule.set(order[position], start as u32);
     }
 }

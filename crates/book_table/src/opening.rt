@@ -11,6 +11,7 @@ use crate::book::Book;
 use crate::packed::{needs_of, rooms_of};
 use crate::pass::Pass;
 use crate::plays::Part;
+use crate::sizes::FIRST_START;
 use activity_net::FeasibleList;
 use atomic_table::{Seat, Table};
 use book_rule::{Hand, Offer, Reach, Search, View};
@@ -140,6 +141,7 @@ impl Pass {
                 added: NONE,
                 stored: false,
             },
+            apart: [0; 16],
         }
     }
 }
@@ -148,12 +150,12 @@ impl Pass {
 fn word_total(positions: u32, words: u32, horizon: u32) -> usize
     requires words { words ≤ 4 }
     requires horizon { horizon ≤ 131070 }
-    ensures { result ≡ 2 + (positions + (positions + (place words horizon 0 + place words ((horizon + 31) / 32) 0))) }
+    ensures { result ≡ 32 + (positions + (positions + (place words horizon 0 + place words ((horizon + 31) / 32) 0))) }
 {
     let blocks = (horizon + 31) / 32;
     let cells = horizon as usize * words as usize;
     let floors = blocks as usize * words as usize;
-    2 + 2 * positions as usize + cells + floors
+    FIRST_START + 2 * positions as usize + cells + floors
 }
 
 // The position of each activity of a list, in order of number.

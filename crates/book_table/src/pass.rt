@@ -22,6 +22,8 @@ pub struct Pass {
     pub(crate) adopted: Offer,
     pub(crate) search: Search,
     pub(crate) hand: Hand,
+    // Two passes of a vector share no cache line: each is written at every step of its worker.
+    pub(crate) apart: [u64; 16],
 }
 
 impl Model for Pass {

@@ -10,6 +10,14 @@ ghost use Rattle.book_rule.specs.Views.{lets_rest};
 use crate::book::Book;
 use crate::packed::room_word;
 
+// The places of the turn, of the tickets and of the first start: on cache lines of their own, so that
+// a ticket that is drawn does not take the turn away from those that book, nor a start the tickets.
+pub(crate) const TURN: usize = 0;
+
+pub(crate) const TICKET: usize = 16;
+
+pub(crate) const FIRST_START: usize = 32;
+
 impl<'n> Book<'n> {
     /// How many positions there are.
     pub fn positions(&self) -> u32
@@ -134,7 +142,7 @@ impl<'n> Book<'n> {
         ensures value { result ≡ offer_word self.now.listing position }
         ensures within { result < word_count self.now.listing }
     {
-        2 + self.positions as usize + position as usize
+        FIRST_START + self.positions as usize + position as usize
     }
 
     // Where a word of a period stands.
@@ -144,7 +152,7 @@ impl<'n> Book<'n> {
         ensures value { result ≡ profile_word self.now.listing period index }
         ensures within { result < word_count self.now.listing }
     {
-        2 + 2 * self.positions as usize + place(self.words, period, index)
+        FIRST_START + 2 * self.positions as usize + place(self.words, period, index)
     }
 
     // Where a floor of a block stands.
@@ -155,7 +163,7 @@ impl<'n> Book<'n> {
         ensures within { result < word_count self.now.listing }
     {
         let floors = place(self.words, self.horizon, 0);
-        2 + 2 * self.positions as usize + floors + place(self.words, block, index)
+        FIRST_START + 2 * self.positions as usize + floors + place(self.words, block, index)
     }
 }
 

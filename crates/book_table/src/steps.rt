@@ -12,12 +12,9 @@ use crate::book::Book;
 use crate::moves::next_reach;
 use crate::pass::Pass;
 use crate::plays::{Add, Claim, Draw, End, Look, Release, Store, StoreFloor};
+use crate::sizes::{FIRST_START, TICKET, TURN};
 use book_rule::{Hand, Reach, Search};
 use std::marker::Brand;
-
-const TURN: usize = 0;
-
-const TICKET: usize = 1;
 
 const NONE: Reach = Reach {
     periods: 0,
@@ -174,7 +171,7 @@ impl<'n> Book<'n> {
         ensures own { Holds self.now pass.new }
         ensures stored { pass.new.view ≡ after_store pass.old.view }
     {
-        let word = 2 + pass.search.position as usize;
+        let word = FIRST_START + pass.search.position as usize;
         self.table
             .shared
             .store::<Store>(&mut pass.seat, word, pass.search.least as u64 + 1);

@@ -15,9 +15,8 @@ use Rattle.serial_plain.proofs.HorizonLaws.{horizon-le}
 use Rattle.rc_instance.proofs.UsageLaws.{last_finish_push}
 use Rattle.rc_instance.proofs.SerialLaws.{serial_booking, serial_more}
 use Rattle.rc_instance.proofs.FeasibleLaws.{makespan-serial_schedule, finish-serial_start-le-horizon}
-use Rattle.activity_net.specs.Network.{Network}
 use Rattle.priority_rules.specs.KeyList.{key_list, key_in}
-use Rattle.key_sampling.proofs.KeyListLaws.{IsFeasibleList-key_list}
+use Rattle.priority_rules.proofs.KeyListLaws.{IsFeasibleList-key_list}
 use Rattle.key_sampling.specs.Samples.{generator_of, first_words, sample_keys, sample_list, sample_makespan}
 
 -- no word is the first words of which there is none
@@ -81,14 +80,6 @@ sample_makespan-is project seed sample places list all =
     let whole : take places order ≡ order = take_all places order (omega arith) in
     rw whole (sym (makespan-serial_schedule project order list))
 
--- as many numbers as a network has activities are as many as a feasible list of it has places
-pub places-of : (n : ℕ) (instance : Project) (net network : Network) (order : List ℕ)
-    → n ≡ activity_count instance → instance ≡ net.project → net ≡ network
-    → IsFeasibleList network.project order → n ≡ length order
-places-of n instance net network order count instance_is net_is list =
-    count ∙ (ap activity_count instance_is ∙ (ap (λ (w : Network). activity_count w.project) net_is
-    ∙ sym list.count))
-
 -- what all places of the list of a sample come to is its value
 pub value-of : (project of : Project) (seed sample places makespan : ℕ) (order : List ℕ)
     → project ≡ of → order ≡ sample_list of seed sample → IsFeasibleList project order
@@ -110,17 +101,6 @@ pub IsFeasibleList-sample_list : (project : Project) (seed sample : ℕ) (order 
 unfolding sample_list
 IsFeasibleList-sample_list project seed sample order list =
     IsFeasibleList-key_list project (key_in (sample_keys project seed sample)) order list
-
--- a start and a duration that are read come to the finish of the activity at a place
-pub finish-read : (project of : Project) (order copy : List ℕ) (i start lasts : ℕ) → of ≡ project
-    → copy ≡ order → start ≡ serial_start project order i
-    → lasts ≡ duration of (slice_index copy i)
-    → start + lasts ≡ serial_start project order i + duration project (slice_index order i)
-finish-read project of order copy i start lasts of_is copy_is start_is lasts_is =
-    let is : lasts ≡ duration project (slice_index order i) =
-    lasts_is ∙ (ap (λ (p : Project). duration p (slice_index copy i)) of_is
-    ∙ ap (λ (xs : List ℕ). duration project (slice_index xs i)) copy_is) in
-    omega arith
 
 -- the makespan of the schedule of the list of a sample is its value
 pub makespan-of : (project of : Project) (seed sample : ℕ) (order : List ℕ) → project ≡ of

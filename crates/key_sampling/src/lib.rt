@@ -26,7 +26,9 @@
 //! ```
 //!
 //! Samples that are given up never change the best: `close` answers the least pair, whatever the
-//! seekers did. [`laws`] says how a range is cut into parts for many machines.
+//! seekers did. A worker chooses the activities of a sample one after another and places each at once,
+//! so that one that is given up is neither chosen nor placed to its end. [`laws`] says how a range is
+//! cut into parts for many machines.
 //!
 //! The crate stands on `serial_plain`, `priority_rules`, `event_line` and `time_windows`, which it
 //! calls for each sample without taking memory, and on `race_rule`, the rule of the race.

@@ -1,8 +1,7 @@
 ghost use Rattle.std.specs.Prelude.{◌≡◌, ℕ, ◌+◌, ◌<◌, ◌≤◌, true, false, length, Some, None, IfSome, IfNone};
-ghost use Rattle.rc_instance.specs.Calendar.{IsWithinLimits};
 ghost use Rattle.rc_instance.specs.Misfit.{HasNoMisfit};
-ghost use Rattle.key_sampling.specs.Samples.{sample_list};
-ghost use Rattle.key_sampling.specs.Tools.{IsPlaced};
+ghost use Rattle.key_sampling.specs.Samples.{sample_keys};
+ghost use Rattle.key_sampling.specs.Tools.{IsPlaced, HaveSameKeys, list_in, places_in};
 ghost use Rattle.key_sampling.specs.Race.{view_of, sample_in_hand, value_in, IsSeekerOf, StaysAtWork};
 ghost use Rattle.key_sampling.specs.Workers.{IsReady, HasEnded, BoundsNext};
 
@@ -38,13 +37,13 @@ fn try_sample(
 )
     requires own { IsSeekerOf race.now worker.old.seeker }
     requires hand { sample_in_hand (view_of worker.old.seeker) ≡ Some sample }
-    requires network { worker.old.tools.list.network ≡ race.now.terms.net.now }
+    requires network { worker.old.tools.net.now ≡ race.now.terms.net.now }
     requires windows { windows.now ≡ race.now.terms.net.now }
     requires fits { HasNoMisfit race.now.terms.net.now.project }
     requires floor { floor ≤ value_in race.now sample }
     ensures stays { StaysAtWork race.now worker.old.seeker worker.new.seeker }
     ensures idle { sample_in_hand (view_of worker.new.seeker) ≡ None }
-    ensures network { worker.new.tools.list.network ≡ worker.old.tools.list.network }
+    ensures network { worker.new.tools.net.now ≡ worker.old.tools.net.now }
 {
     if race.give_up(&mut worker.seeker, floor) {
         return;
@@ -63,8 +62,9 @@ fn try_sample(
     }
 }
 
-// Places all activities of the sample in hand, and answers its makespan, unless it is given up on the
-// way: the greatest sum of a start and a tail is a bound of the makespan, and in the end is it.
+// Chooses and places the activities of the sample in hand, one after another, and answers its
+// makespan, unless it is given up on the way: the greatest sum of a start and a tail is a bound of the
+// makespan, and in the end is it.
 fn place_all(
     race: &Race<'_>,
     windows: &Windows<'_>,
@@ -75,22 +75,23 @@ fn place_all(
 ) -> Option<u32>
     requires own { IsSeekerOf race.now seeker.old }
     requires hand { sample_in_hand (view_of seeker.old) ≡ Some sample }
-    requires network { tools.old.list.network ≡ race.now.terms.net.now }
+    requires network { tools.old.net.now ≡ race.now.terms.net.now }
     requires windows { windows.now ≡ race.now.terms.net.now }
     requires fits { HasNoMisfit race.now.terms.net.now.project }
     requires floor { floor ≤ value_in race.now sample }
-    requires list { tools.old.list.order
-        ≡ sample_list race.now.terms.net.now.project race.now.terms.seed sample }
-    requires placed { IsPlaced tools.old 0 }
+    requires keys { tools.old.keys.items
+        ≡ sample_keys race.now.terms.net.now.project race.now.terms.seed sample }
+    requires placed { IsPlaced tools.old }
+    requires none { places_in tools.old ≡ 0 }
     ensures stays { StaysAtWork race.now seeker.old seeker.new }
-    ensures network { tools.new.list.network ≡ tools.old.list.network }
+    ensures network { tools.new.net.now ≡ tools.old.net.now }
     ensures value { IfSome result (λ makespan. (makespan ≡ value_in race.now sample)
         × (sample_in_hand (view_of seeker.new) ≡ Some sample)) }
     ensures given_up { IfNone result (sample_in_hand (view_of seeker.new) ≡ None) }
 {
     let mut bound = floor;
-    for position in 0..tools.list.net().instance().count() {
-        bound = place_next(windows, bound, position, tools);
+    'places: while let Some(reached) = place_next(windows, bound, tools) {
+        bound = reached;
         if gives_up(race, bound, sample, seeker) {
             return None;
         }
@@ -98,21 +99,25 @@ fn place_all(
     Some(bound)
 }
 
-// Places the next activity, and answers the bound that grows with it.
-fn place_next(windows: &Windows<'_>, bound: u32, position: u32, tools: &mut Tools<'_>) -> u32
-    requires windows { windows.now ≡ tools.old.list.network }
-    requires position { position < length tools.old.list.order }
-    requires fits { HasNoMisfit tools.old.list.network.project }
-    requires limits { IsWithinLimits tools.old.list.network.project }
-    requires placed { IsPlaced tools.old position }
-    ensures list { tools.new.list ≡ tools.old.list }
-    ensures placed { IsPlaced tools.new (position + 1) }
-    ensures bound { BoundsNext tools.old.list position bound result }
+// Places the next activity, if one is left, and answers the bound that grows with it.
+#[inline(always)]
+fn place_next(windows: &Windows<'_>, bound: u32, tools: &mut Tools<'_>) -> Option<u32>
+    requires windows { windows.now ≡ tools.old.net.now }
+    requires fits { HasNoMisfit tools.old.net.now.project }
+    requires placed { IsPlaced tools.old }
+    ensures same { HaveSameKeys tools.old tools.new }
+    ensures placed { IsPlaced tools.new }
+    ensures bound { IfSome result (λ reached. BoundsNext tools.old.net.now.project
+        (list_in tools.old) (places_in tools.old) bound reached) }
+    ensures more { IfSome result (λ _. places_in tools.new ≡ places_in tools.old + 1) }
+    ensures none { IfNone result ((length (list_in tools.old) ≤ places_in tools.old)
+        × (places_in tools.new ≡ places_in tools.old)) }
 {
-    let start = tools.place(position);
-    let activity = tools.list.order()[position as usize];
-    let reach = start + windows.tail(activity);
-    bound.max(reach)
+    let Some(placed) = tools.place_next() else {
+        return None;
+    };
+    let reach = placed.start + windows.tail(placed.activity);
+    Some(bound.max(reach))
 }
 
 // Gives the sample in hand up, where a bound of its makespan shows that it is not the best. The best

@@ -9,9 +9,12 @@ use std::alloc::Global;
 
 // A seeker with what it needs to schedule samples.
 #[derive(Drop)]
+#[repr(C)]
 pub(crate) struct Worker<'n> {
     pub(crate) seeker: Seeker,
     pub(crate) tools: Tools<'n>,
+    // Two workers of a vector share no cache line: each is written at every step.
+    pub(crate) apart: [u64; 16],
 }
 
 // Gives each seeker its tools.
@@ -26,7 +29,11 @@ pub(crate) fn workers_of<'n>(
     let mut workers = Vec::with_capacity(alloc, seekers.len())?;
     for seeker in seekers {
         let tools = Tools::new(alloc, net)?;
-        workers.push(Worker { seeker, tools })?;
+        workers.push(Worker {
+            seeker,
+            tools,
+            apart: [0; 16],
+        })?;
     }
     Ok(workers)
 }
@@ -37,7 +44,7 @@ pub(crate) fn seekers_of(workers: Vec<Worker<'_>>, seekers: &mut Vec<Seeker>)
     ensures { seekers.new.items ≡ seekers.old.items ++ map seeker_of workers.entry.items }
 {
     for worker in workers {
-        let Worker { seeker, tools: _ } = worker;
+        let Worker { seeker, .. } = worker;
         seekers.push_reserved(seeker);
     }
 }

@@ -1,7 +1,8 @@
 -- Which activity is chosen.
-use Rattle.std.proofs.Common.{◌≡◌, ℕ, suc, ◌+◌, ◌<◌, ◌≤◌, Bool, true, false, ◌&&◌, List, [], ◌∷◌, ◌++◌, sym, refl, ◌∙◌, inl, inr, arith, true≢false, nat_le}
+use Rattle.std.proofs.Common.{◌≡◌, ℕ, zero, suc, ◌+◌, ◌-◌, ◌<◌, ◌≤◌, Bool, true, false, ◌&&◌, List, [], ◌∷◌, ◌++◌, length, take, get_or, sym, refl, ap, ◌∙◌, subst, inl, inr, arith, true≢false, nat_le}
 use Rattle.std.specs.List.{All, filter, list_all}
 use Rattle.std.proofs.lemmas.Bool.{cases_lt, and_from, and_parts, le-leb, lt-leb}
+use Rattle.std.proofs.lemmas.List.{get_or-take, get_or_push, length_push, take-append-le, take_all}
 use Rattle.std.proofs.lemmas.List.Elements.{All-contains, filter_passes}
 use Rattle.std.proofs.lemmas.List.Sums.{list_all-from_AllPass, AllPass-from_list_all}
 use Rattle.rc_instance.specs.Lists.{numbers, first_from}
@@ -101,3 +102,48 @@ pub choices-more : (project : Project) (as_good : ℕ → ℕ → Bool) (m : ℕ
     (choices project as_good m) ∷ []
 unfolding choices
 choices-more project as_good m = let e : m + 1 ≡ suc m = omega arith in rw e refl
+
+-- so many choices list so many activities
+pub length-choices : (project : Project) (as_good : ℕ → ℕ → Bool) (m : ℕ)
+    → length (choices project as_good m) ≡ m
+length-choices project as_good zero = ap length (choices-none project as_good)
+length-choices project as_good (suc m) =
+    let next : m + 1 ≡ suc m = omega arith in
+    let listed = choices project as_good m in
+    let more = ap length (choices-more project as_good m) ∙ length_push listed (choice project as_good listed) in
+    subst (λ (k : ℕ). length (choices project as_good k) ≡ k) next
+    (more ∙ omega (arith, length-choices project as_good m))
+
+-- the first of them are listed by fewer choices
+take-choices : (project : Project) (as_good : ℕ → ℕ → Bool) (n k : ℕ)
+    → take n (choices project as_good (n + k)) ≡ choices project as_good n
+take-choices project as_good n zero =
+    let none : n + 0 ≡ n = omega arith in
+    let long = length-choices project as_good n in
+    rw none (take_all n (choices project as_good n) (omega arith))
+take-choices project as_good n (suc k) =
+    let next : n + k + 1 ≡ n + suc k = omega arith in
+    let listed = choices project as_good (n + k) in
+    let long = length-choices project as_good (n + k) in
+    subst (λ (m : ℕ). take n (choices project as_good m) ≡ choices project as_good n) next
+    (ap (take n) (choices-more project as_good (n + k))
+    ∙ (take-append-le n listed (choice project as_good listed ∷ []) (omega arith)
+    ∙ take-choices project as_good n k))
+
+-- each activity that they list is the choice after those before it
+pub choices-at : (project : Project) (as_good : ℕ → ℕ → Bool) (n m : ℕ) → n < m
+    → get_or (choices project as_good m) n 0
+    ≡ choice project as_good (take n (choices project as_good m))
+choices-at project as_good n m below =
+    let all = choices project as_good m in
+    let first : (i : ℕ) → i ≤ m → take i all ≡ choices project as_good i = λ i within.
+    let rest : i + (m - i) ≡ m = omega arith in
+    subst (λ (k : ℕ). take i (choices project as_good k) ≡ choices project as_good i) rest
+    (take-choices project as_good i (m - i)) in
+    let listed = choices project as_good n in
+    let next = choice project as_good listed in
+    sym (get_or-take (n + 1) all n 0 (omega arith))
+    ∙ (ap (λ (list : List ℕ). get_or list n 0)
+    (first (n + 1) (omega arith) ∙ choices-more project as_good n)
+    ∙ (get_or_push listed next 0 n (length-choices project as_good n)
+    ∙ ap (choice project as_good) (sym (first n (omega arith)))))

@@ -5,7 +5,8 @@ pub mod FreeLaws
 pub mod CountingLaws
 pub mod PileLaws
 pub mod ReleaseLaws
-pub mod ChoosingLaws
+pub mod KeyListLaws
+pub mod PickingLaws
 pub mod NumberLaws
 pub mod RuleLaws
 pub mod Rows

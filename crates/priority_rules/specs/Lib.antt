@@ -2,4 +2,5 @@ pub mod Choices
 pub mod KeyList
 pub mod Rules
 pub mod Choosing
+pub mod Picking
 pub mod Laws

@@ -1,10 +1,11 @@
-ghost use Rattle.std.specs.Prelude.{◌≡◌, ℕ, ◌-◌, ◌<◌, ◌≤◌, ◌++◌, List, [], length, take, slice_index, All};
+ghost use Rattle.std.specs.Prelude.{◌≡◌, ℕ, ◌+◌, ◌-◌, ◌<◌, ◌≤◌, ◌++◌, List, length, take, slice_index, All};
 ghost use Rattle.rc_instance.specs.Project.{activity_count};
 ghost use Rattle.rc_instance.specs.Calendar.{AreSuccessors};
 ghost use Rattle.rc_instance.specs.Order.{IsFeasibleList};
 ghost use Rattle.activity_net.specs.Tables.{IsReleased};
 ghost use Rattle.priority_rules.specs.KeyList.{key_list, key_in};
-ghost use Rattle.priority_rules.specs.Choosing.{IsWaiting, AreFree, IsPile};
+ghost use Rattle.priority_rules.specs.Choosing.{AreFree, IsPile};
+ghost use Rattle.priority_rules.specs.Picking.{HasPicked, IsPick, picking};
 
 use crate::pile::add;
 use activity_net::Net;
@@ -27,26 +28,27 @@ pub(crate) fn choose_order(
 {
     let mut free = count_predecessors(net, keys, waiting, pile);
     for listed in 0..net.order().len() {
-        free -= 1;
-        let next = pile[free];
+        let next = pile[free - 1];
         order[listed] = next;
-        let successors = net.instance().successors(next);
-        free = release(successors, keys, waiting, pile, free);
+        free = take_next(net, keys, waiting, pile, free, next);
     }
 }
 
-// Counts the direct predecessors of each activity, and piles up those without any.
-fn count_predecessors(net: &Net, keys: &[u32], waiting: &mut [u32], pile: &mut [u32]) -> usize
+// Counts the direct predecessors of each activity, and piles up those without any: how many these
+// are. Nothing is picked.
+pub(crate) fn count_predecessors(
+    net: &Net,
+    keys: &[u32],
+    waiting: &mut [u32],
+    pile: &mut [u32],
+) -> usize
     requires keys { length keys.now ≡ activity_count net.now.project }
     requires waiting { length waiting.old ≡ activity_count net.now.project }
     requires pile { length pile.old ≡ activity_count net.now.project }
-    ensures waiting { IsWaiting net.now.project [] waiting.new }
-    ensures within { result ≤ length pile.new }
-    ensures free { AreFree (activity_count net.now.project) waiting.new (take result pile.new) }
-    ensures falling { IsPile keys.now pile.new result }
+    ensures { HasPicked net.now.project keys.now (picking waiting.new pile.new result 0) }
 {
     let mut free = 0;
-    for activity in 1..net.instance().count() + 1 {
+    for activity in 1..net.order().len() as u32 + 1 {
         let count = net.predecessor_count(activity);
         waiting[activity as usize - 1] = count;
         if count == 0 {
@@ -57,8 +59,37 @@ fn count_predecessors(net: &Net, keys: &[u32], waiting: &mut [u32], pile: &mut [
     free
 }
 
+// Takes the next activity off the pile, at whose end it is, and releases its successors: how much of
+// the pile is free then. Always inlined: it is called for each activity of a list.
+#[inline(always)]
+pub(crate) fn take_next(
+    net: &Net,
+    keys: &[u32],
+    waiting: &mut [u32],
+    pile: &mut [u32],
+    free: usize,
+    next: u32,
+) -> usize
+    requires keys { length keys.now ≡ activity_count net.now.project }
+    requires some { 0 < free }
+    requires next { next ≡ slice_index pile.old (free - 1) }
+    requires picked { (picked : ℕ)
+        × HasPicked net.now.project keys.now (picking waiting.old pile.old free picked) }
+    ensures picked { (picked : ℕ)
+        → HasPicked net.now.project keys.now (picking waiting.old pile.old free picked)
+        → HasPicked net.now.project keys.now (picking waiting.new pile.new result (picked + 1)) }
+    ensures next { (picked : ℕ)
+        → HasPicked net.now.project keys.now (picking waiting.old pile.old free picked)
+        → IsPick net.now.project keys.now (picking waiting.old pile.old free picked)
+        (picking waiting.new pile.new result (picked + 1)) next }
+{
+    let successors = net.instance().successors(next);
+    release(successors, keys, waiting, pile, free - 1)
+}
+
 // Each successor waits for one activity less; those that wait for none now join the pile. With those
-// that are listed, the pile stays all that wait for none.
+// that are listed, the pile stays all that wait for none. Always inlined, as the step that calls it.
+#[inline(always)]
 fn release(
     successors: &[u32],
     keys: &[u32],

@@ -2,7 +2,8 @@
 //!
 //! `list_by_keys` takes, again and again, the activity of least key among those that are not listed
 //! and whose direct predecessors all are: its list is `key_list` of its project. `list_of` does so
-//! by a `Rule`, and a `Chooser` as often as wanted without taking memory.
+//! by a `Rule`, and a `Chooser` as often as wanted without taking memory. A `Picker` gives the
+//! activities of such a list one after another, so that it can be given up before it is whole.
 //!
 //! ```text
 //! let windows = Windows::of(alloc, &net)?;
@@ -17,12 +18,14 @@ mod chooser;
 mod choosing;
 mod key_list;
 pub mod laws;
+mod picker;
 mod pile;
 mod rule;
 mod rule_list;
 
 pub use chooser::Chooser;
 pub use key_list::{list_by_keys, list_by_number};
+pub use picker::Picker;
 pub use rule::Rule;
 pub use rule_list::list_of;
 

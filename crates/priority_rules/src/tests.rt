@@ -70,4 +70,20 @@ fn a_list_is_made_anew_by_other_keys(rt: HostRuntime) -> Result<(), Fail> {
     Ok(())
 }
 
+#[test]
+fn activities_are_picked_one_after_another(rt: HostRuntime) -> Result<(), Fail> {
+    let net = net_of(rt.alloc(), &[0, 1, 1], &[&[], &[1], &[]])?;
+    let keys = [1, 3, 2];
+    let mut picker = Picker::new(rt.alloc(), &net)?;
+    is_send(&picker);
+    picker.begin(&net, &keys);
+    assert_eq!(rt; picker.pick(&net, &keys), Some(3));
+    picker.begin(&net, &keys);
+    assert_eq!(rt; picker.pick(&net, &keys), Some(3));
+    assert_eq!(rt; picker.pick(&net, &keys), Some(2));
+    assert_eq!(rt; picker.pick(&net, &keys), Some(1));
+    assert_eq!(rt; picker.pick(&net, &keys), None);
+    Ok(())
+}
+
 fn is_send<T: Send>(_: &T) {}

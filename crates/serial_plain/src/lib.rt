@@ -5,8 +5,9 @@
 //! misfit of the instance. [`serial_on`] writes the same schedule, of an instance without a misfit,
 //! by bookings on an empty [`Line`](event_line::Line), so that one line serves for many lists: it
 //! takes no memory. [`serial_step`] is one step of it, so that a list with another end can be
-//! scheduled from where it differs. The crate stands on `rc_instance`, `activity_net` and
-//! `event_line`. One caller:
+//! scheduled from where it differs, and [`serial_step_of`] the same step of an activity that is told,
+//! so that a list can be chosen while it is booked. The crate stands on `rc_instance`,
+//! `activity_net` and `event_line`. One caller:
 //!
 //! ```text
 //! let net = Net::of(alloc, instance)?;
@@ -29,5 +30,5 @@ mod scheme;
 mod tests;
 
 pub use fault::SchemeFault;
-pub use on::{serial_on, serial_step};
+pub use on::{serial_on, serial_step, serial_step_of};
 pub use scheme::serial;

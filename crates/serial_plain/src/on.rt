@@ -1,4 +1,4 @@
-ghost use Rattle.std.specs.Prelude.{◌≡◌, ℕ, ◌+◌, ◌-◌, ◌<◌, ◌≤◌, [], length, take, slice_index, slice_set};
+ghost use Rattle.std.specs.Prelude.{◌≡◌, ℕ, ◌+◌, ◌-◌, ◌<◌, ◌≤◌, List, [], length, take, slice_index, slice_set};
 ghost use Rattle.std.specs.List.{All};
 ghost use Rattle.rc_instance.specs.declared.limits.TheConstants.{MAX_HORIZON};
 ghost use Rattle.rc_instance.specs.Project.{IsActivity, activity_count, horizon};
@@ -6,8 +6,9 @@ ghost use Rattle.rc_instance.specs.Misfit.{HasNoMisfit};
 ghost use Rattle.rc_instance.specs.Serial.{serial_bookings, serial_start};
 ghost use Rattle.rc_instance.specs.Schedule.{IsFeasible, makespan, serial_schedule};
 ghost use Rattle.serial_plain.specs.Shown.{ShowsStarts, finish_at, last_finish_of};
+ghost use Rattle.serial_plain.specs.Steps.{IsStepOf, IsNext, HasStepped};
 
-use activity_net::FeasibleList;
+use activity_net::{FeasibleList, Net};
 use event_line::Line;
 use rc_instance::{Instance, Schedule};
 
@@ -63,8 +64,26 @@ pub fn serial_step(
     ensures answer { result
         ≡ serial_start list.now.network.project list.now.order position }
 {
-    let net = list.net();
-    let activity = list.order()[position as usize];
+    serial_step_of(list.net(), line, into, list.order()[position as usize])
+}
+
+/// The same step, of an activity that is told: for a list that is chosen while it is booked.
+///
+/// The activity stands next in some feasible list, of which what stands before is booked. The step is
+/// that of each such list.
+// Always inlined, as the step above.
+#[inline(always)]
+pub fn serial_step_of(net: &Net, line: &mut Line<'_>, into: &mut Schedule, activity: u32) -> u32
+    requires fits { HasNoMisfit net.now.project }
+    requires project { line.old.project ≡ net.now.project }
+    requires count { length into.old ≡ activity_count net.now.project }
+    requires shown { ShowsStarts line.old.bookings into.old }
+    requires next { IsNext net.now.project line.old.bookings activity }
+    ensures stepped { (order : List ℕ) (position : ℕ)
+        → IsStepOf net.now.project order position line.old.bookings activity
+        → HasStepped net.now.project order position activity line.old line.new into.old into.new result }
+    ensures shown { ShowsStarts line.new.bookings into.new }
+{
     let last = last_of(net.instance(), net.predecessors(activity), into);
     let start = line.place_near(activity, last.finish, last.activity);
     into.set(activity, start);

@@ -1,4 +1,4 @@
-use Rattle.key_sampling.proofs.KeyListLaws.{IsFeasibleList-key_list}
+use Rattle.priority_rules.proofs.KeyListLaws.{IsFeasibleList-key_list}
 use Rattle.key_sampling.proofs.laws.list_by_keys_is_feasible.Goals as goal
 
 pub returns : goal.returns

@@ -22,7 +22,7 @@ loop-place-preserved c =
     c.value.ensures.value ∙ ap (λ (n : Network). sample_makespan n.project c.args.seed
     (c.args.from + l.place)) before.network in
     record {
-      network = c.value.ensures.network ∙ before.network;
+      network = c.value.ensures.net ∙ before.network;
       written = λ k below. written_more value l.values l.place c.value.result within is
           before.written k below;
       left = λ k above inside.

@@ -12,7 +12,11 @@ loop-seeker-preserved c =
     let l = c.loop-seeker in
     let before = l.invariant in
     let seeker = c.in-Some.seeker in
-    let worker : Worker = record { seeker = seeker; tools = c.in_ok-tools.tools } in
+    let worker : Worker = record {
+      seeker = seeker;
+      tools = c.in_ok-tools.tools;
+      apart = _;
+    } in
     let items : c.push.new.self.items ≡ l.workers.items ++ worker ∷ [] = c.in_ok-push.ensures.items in
     record {
       can_next = tt;
@@ -22,6 +26,6 @@ loop-seeker-preserved c =
       seekers = ap (map seeker_of) items ∙ (map-append seeker_of l.workers.items (worker ∷ [])
           ∙ ap (λ (xs : List Seeker). xs ++ seeker ∷ []) before.seekers);
       tools = subst (HaveTools c.args.net.now) (sym items)
-          (All-push (λ w. w.tools.list.network ≡ c.args.net.now) l.workers.items worker before.tools
+          (All-push (λ w. w.tools.net.now ≡ c.args.net.now) l.workers.items worker before.tools
           c.in_ok-tools.ensures);
     }

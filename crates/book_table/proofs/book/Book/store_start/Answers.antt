@@ -34,6 +34,6 @@ store-requires c =
     subst (λ (l : Listing). c.pass.inside.search.position < count l) sizes.key searched in (
       pass.table,
       omega (arith, sizes.wide, there),
-      stores _ _ _ _ pass.own full _ _ chosen whole (ap (λ (s : Search). 2 + s.position) mine)
+      stores _ _ _ _ pass.own full _ _ chosen whole (ap (λ (s : Search). 32 + s.position) mine)
           (ap (λ (s : Search). s.least + 1) mine),
     )

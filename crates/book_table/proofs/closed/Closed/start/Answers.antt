@@ -1,4 +1,4 @@
-use Rattle.std.proofs.Common.{◌≡◌, ◌≢◌, ℕ, ◌+◌, ◌-◌, ◌*◌, ◌/◌, ◌%◌, ◌<◌, ◌≤◌, min, max, Bool, true, false, length, slice_index, nat_lt, refl, sym, ap, subst, ◌∙◌, arith, rules, Fits, w16, w32, w64}
+use Rattle.std.proofs.Common.{length, ap, ◌∙◌, arith}
 use Rattle.activity_net.specs.Network.{Listing}
 use Rattle.rc_instance.specs.Schedule.{serial_schedule, start_at}
 use Rattle.book_table.specs.Passes.{ClosedBook}

@@ -1,6 +1,5 @@
-use Rattle.std.proofs.Common.{◌≡◌, ◌≢◌, ℕ, ◌+◌, ◌-◌, ◌*◌, ◌/◌, ◌%◌, ◌<◌, ◌≤◌, min, max, Bool, true, false, length, slice_index, nat_lt, refl, sym, ap, subst, ◌∙◌, arith, rules, Fits, w16, w32, w64}
+use Rattle.std.proofs.Common.{◌≡◌, ◌+◌, ◌-◌, ◌*◌, ◌%◌, ◌<◌, slice_index, refl, ap, subst, ◌∙◌, arith}
 use Rattle.activity_net.specs.Network.{Listing}
-use Rattle.rc_instance.specs.Schedule.{serial_schedule, start_at}
 use Rattle.book_table.specs.Passes.{ClosedBook}
 use Rattle.book_rule.specs.Listed.{IsBookable, count, width, horizon_of}
 use Rattle.book_rule.specs.Layout.{place, profile_word}
@@ -86,7 +85,7 @@ returns-clause-lanes c =
     let inside =
     profile_word-inside list c.args.period c.args.index c.requires.period c.requires.index in
     let there : c.args.period < horizon_of list = c.requires.period in
-    let stands : 2 + 2 * c.self.inside.positions + c.place.result
+    let stands : 32 + 2 * c.self.inside.positions + c.place.result
     ≡ profile_word list c.args.period c.args.index = omega (arith, at, positions) in
     let read = c.at.ensures ∙ ap (λ k. slice_index c.self.inside.shut k) stands in
     λ l lane. ap (λ x. lane_of x l) read
@@ -108,7 +107,7 @@ returns-clause-usage c =
     let inside =
     profile_word-inside list c.args.period c.args.index c.requires.period c.requires.index in
     let there : c.args.period < horizon_of list = c.requires.period in
-    let stands : 2 + 2 * c.self.inside.positions + c.place.result
+    let stands : 32 + 2 * c.self.inside.positions + c.place.result
     ≡ profile_word list c.args.period c.args.index = omega (arith, at, positions) in
     let read = c.at.ensures ∙ ap (λ k. slice_index c.self.inside.shut k) stands in
     λ k is row.

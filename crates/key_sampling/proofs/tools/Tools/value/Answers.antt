@@ -1,21 +1,19 @@
-use Rattle.std.proofs.Common.{◌≡◌, ℕ, ◌+◌, ◌<◌, ◌≤◌, List, length, slice_index, take, sym, subst, ap, ◌∙◌, arith, refl}
+use Rattle.std.proofs.Common.{◌≡◌, ℕ, ◌+◌, ◌≤◌, List, slice_index, refl, sym, ap, ◌∙◌, arith}
 use Rattle.rc_instance.specs.declared.limits.TheConstants.{MAX_HORIZON}
 use Rattle.rc_instance.specs.Project.{Project, duration}
-use Rattle.rc_instance.specs.Calendar.{IsWithinLimits}
-use Rattle.rc_instance.specs.Order.{IsFeasibleList}
-use Rattle.rc_instance.specs.Usage.{last_finish}
-use Rattle.rc_instance.specs.Serial.{serial_bookings, serial_start}
-use Rattle.activity_net.specs.Network.{Network, Listing}
-use Rattle.key_sampling.proofs.SampleLaws.{last_finish-next, places-of, value-of, finish-read, finish-within}
+use Rattle.rc_instance.specs.Serial.{serial_start}
+use Rattle.activity_net.specs.Network.{Network}
+use Rattle.key_sampling.specs.Tools.{list_in, places_in}
+use Rattle.key_sampling.proofs.SampleLaws.{finish-within}
+use Rattle.key_sampling.proofs.PlacedLaws.{same-through, finish_in-none, finish_in-next, finish_in-all, finish-placed}
 use Rattle.key_sampling.proofs.tools.Tools.value.Goals as goal
 use Rattle.key_sampling.proofs.tools.Tools.value.Goals.{After-duration}
 
-pub loop-position-init : goal.loop-position-init
-unfolding serial_bookings
-loop-position-init c = record {
-  list = refl;
+pub places-init : goal.places-init
+places-init c = record {
+  same = record { net = refl; keys = refl };
   placed = c.begin.ensures.placed;
-  makespan = refl;
+  makespan = sym (finish_in-none c.begin.new.self c.begin.ensures.none);
   within = omega arith;
 }
 
@@ -24,34 +22,19 @@ record IsFinish (project : Project) (order : List ℕ) (i finish : ℕ) : Type 0
   is : finish ≡ serial_start project order i + duration project (slice_index order i)
   within : finish ≤ MAX_HORIZON
 
-finishes : (c : After-duration) → IsFinish c.loop-position.self.list.network.project
-    c.loop-position.self.list.order c.loop-position.position
-    (c.place-start.result + c.duration.result)
+finishes : (c : After-duration) → IsFinish c.places.self.net.now.project (list_in c.places.self)
+    (places_in c.places.self) (c.in-Some.placed.start + c.duration.result)
 finishes c =
-    let l = c.loop-position in
-    let list = l.self.list in
-    let project = list.network.project in
-    let i = l.position in
-    let begun = c.begin.new.self.list in
-    let same = c.place-start.ensures.list in
-    let places = places-of c.count-position-end.result c.instance-instance.result.now
-    c.net.result.now begun.network begun.order c.count-position-end.ensures.value
-    c.instance-instance.ensures.value c.net.ensures.value c.net.ensures.feasible in
-    let long : length list.order ≡ length begun.order =
-    ap (λ (of : Listing). length of.order) l.invariant.list in
-    let inside : i < length list.order = omega arith in
-    let of : c.instance-instance.result.now ≡ project =
-    c.instance-instance.ensures.value ∙ (ap (λ (n : Network). n.project) c.net.ensures.value
-    ∙ sym (ap (λ (of : Listing). of.network.project) l.invariant.list)) in
-    let copy = c.order.ensures.value ∙ ap (λ (of : Listing). of.order) same in
-    let is = finish-read project c.instance-instance.result.now list.order c.order.result.now i
-    c.place-start.result c.duration.result of copy c.place-start.ensures.start
-    c.duration.ensures.value in
-    let limits = subst IsWithinLimits of
-    (subst IsWithinLimits (sym c.instance-instance.ensures.value) c.instance-instance.ensures.limits) in
-    let feasible = subst (λ (of : Listing). IsFeasibleList of.network.project of.order)
-    (sym l.invariant.list) c.net.ensures.feasible in
-    let low = finish-within project list.order i limits feasible inside in
+    let tools = c.places.self in
+    let project = tools.net.now.project in
+    let next = c.in-Some.ensures.next in
+    let of : c.instance.result.now ≡ project =
+    c.instance.ensures.value ∙ ap (λ (n : Network). n.project) c.place_next.ensures.same.net in
+    let is = finish-placed project c.instance.result.now (list_in tools) (places_in tools)
+    c.duration.result c.in-Some.placed of next c.duration.ensures.value in
+    let picked = c.places.invariant.placed.picked in
+    let low = finish-within project (list_in tools) (places_in tools) picked.limits picked.feasible
+    next.within in
     record { is = is; within = omega arith }
 
 pub overflow_add-finish : goal.overflow_add-finish
@@ -59,49 +42,33 @@ overflow_add-finish c =
     let within = (finishes (goal.at.overflow_add-finish c).After-duration).within in
     omega arith
 
-pub loop-position-preserved : goal.loop-position-preserved
-loop-position-preserved c =
-    let l = c.loop-position in
-    let list = l.self.list in
-    let project = list.network.project in
-    let i = l.position in
-    let before = l.invariant.makespan in
-    let same = c.place-start.ensures.list in
-    let finish = finishes (goal.at.loop-position-preserved c).After-duration in
-    let is = finish.is in
-    let within = finish.within in
-    let places = places-of c.count-position-end.result c.instance-instance.result.now
-    c.net.result.now c.begin.new.self.list.network c.begin.new.self.list.order
-    c.count-position-end.ensures.value c.instance-instance.ensures.value c.net.ensures.value
-    c.net.ensures.feasible in
-    let long : length list.order ≡ length c.begin.new.self.list.order =
-    ap (λ (of : Listing). length of.order) l.invariant.list in
-    let inside : i < length list.order = omega arith in
-    let next : c.max-makespan.result
-    ≡ last_finish project (serial_bookings project (take (i + 1) list.order)) =
-    omega (arith, c.max-makespan.ensures, last_finish-next project list.order i inside) in
+pub places-preserved : goal.places-preserved
+places-preserved c =
+    let tools = c.places.self in
+    let new = c.place_next.new.self in
+    let before = c.places.invariant in
+    let finish = finishes (goal.at.places-preserved c).After-duration in
     record {
-      list = same ∙ l.invariant.list;
-      placed = c.place-start.ensures.placed;
-      makespan = subst (λ (of : Listing). c.max-makespan.result
-          ≡ last_finish of.network.project (serial_bookings of.network.project
-          (take (i + 1) of.order))) (sym same) next;
-      within =
-          let low = l.invariant.within in
-          omega (arith, c.max-makespan.ensures);
+      same = same-through c.begin.new.self tools new before.same c.place_next.ensures.same;
+      placed = c.place_next.ensures.placed;
+      makespan = omega (
+        arith,
+        c.max-makespan.ensures,
+        finish.is,
+        before.makespan,
+        finish_in-next tools new c.place_next.ensures.same c.in-Some.ensures.next.within
+            c.in-Some.ensures.more,
+      );
+      within = omega (arith, c.max-makespan.ensures, finish.within, before.within);
     }
 
 pub returns-clause-value : goal.returns-clause-value
 returns-clause-value c =
-    let l = c.loop-position in
-    let list = l.self.list in
-    let begun = c.begin.new.self.list in
-    let project = c.args.self.now.list.network.project in
-    let places = places-of c.count-position-end.result c.instance-instance.result.now c.net.result.now
-    begun.network begun.order c.count-position-end.ensures.value c.instance-instance.ensures.value
-    c.net.ensures.value c.net.ensures.feasible in
-    value-of begun.network.project project c.args.seed c.args.sample l.position l.makespan
-    begun.order (ap (λ (n : Network). n.project) c.begin.ensures.network) c.begin.ensures.list
-    c.net.ensures.feasible (omega arith)
-    (l.invariant.makespan ∙ ap (λ (of : Listing). last_finish of.network.project
-    (serial_bookings of.network.project (take l.position of.order))) l.invariant.list)
+    let tools = c.places.self in
+    let before = c.places.invariant in
+    let project = c.args.self.now.net.now.project in
+    let of = ap (λ (n : Network). n.project) (before.same.net ∙ c.begin.ensures.net) in
+    before.makespan
+    ∙ finish_in-all tools project c.args.seed c.args.sample of
+    (before.same.keys ∙ c.begin.ensures.keys) before.placed.picked.feasible
+    c.in_default.ensures.none.0

@@ -1,5 +1,5 @@
--- A list by keys is feasible, whatever the keys are.
-use Rattle.std.proofs.Common.{◌≡◌, ℕ, zero, suc, ◌+◌, ◌<◌, ◌≤◌, ◌⊎◌, true, false, List, [], ◌∷◌, ◌++◌, length, nat_le, sym, ap, ◌∙◌, subst, inl, inr, arith, true≢false, length-append}
+-- What a list by keys lists, and that it is feasible, whatever the keys are.
+use Rattle.std.proofs.Common.{◌≡◌, ℕ, zero, suc, ◌+◌, ◌<◌, ◌≤◌, ◌⊎◌, true, false, List, [], ◌∷◌, ◌++◌, length, take, get_or, nat_le, sym, ap, ◌∙◌, subst, inl, inr, arith, true≢false, length-append}
 use Rattle.std.proofs.lemmas.Bool.{cases_lt, cases_eq, cases_Bool}
 use Rattle.rc_instance.specs.Project.{Project, activity_count, IsActivity}
 use Rattle.rc_instance.specs.Order.{IsFeasibleList}
@@ -9,7 +9,7 @@ use Rattle.priority_rules.specs.Choices.{is_eligible, choice, choices}
 use Rattle.priority_rules.specs.KeyList.{key_list}
 use Rattle.priority_rules.specs.Choosing.{GoesFirst}
 use Rattle.priority_rules.proofs.EligibleLaws.{eligible-fresh, eligible-named, some_eligible}
-use Rattle.priority_rules.proofs.ChoiceLaws.{choice_by_key, choices-none, choices-more}
+use Rattle.priority_rules.proofs.ChoiceLaws.{choice_by_key, choices-none, choices-more, choices-at, length-choices}
 
 -- nothing listed is a beginning
 IsBeginning-nil : (project : Project) → IsBeginning project []
@@ -183,3 +183,18 @@ IsFeasibleList-key_list project key order feasible =
     let all = choices_begin project key order feasible (activity_count project) (omega arith) in
     IsFeasibleList-whole project (choices project (λ a b. nat_le (key a) (key b))
     (activity_count project)) all.0 all.1
+
+-- it lists as many activities as there are
+pub length-key_list : (project : Project) (key : ℕ → ℕ)
+    → length (key_list project key) ≡ activity_count project
+unfolding key_list
+length-key_list project key =
+    length-choices project (λ a b. nat_le (key a) (key b)) (activity_count project)
+
+-- each activity of it is the choice after those before it
+pub key_list-at : (project : Project) (key : ℕ → ℕ) (n : ℕ) → n < activity_count project
+    → get_or (key_list project key) n 0
+    ≡ choice project (λ a b. nat_le (key a) (key b)) (take n (key_list project key))
+unfolding key_list
+key_list-at project key n below =
+    choices-at project (λ a b. nat_le (key a) (key b)) n (activity_count project) below
