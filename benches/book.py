@@ -17,7 +17,8 @@ import sys
 import tempfile
 
 from instances import instance
-from measure import bench, compiled, compiler, head, instructions, least, machine, printed, rcpsp, row
+from measure import (bench, compiled, compiler, head, instructions, least, least_in_turns, machine, printed, rcpsp,
+                     row)
 
 RUNS = 5
 WORKERS = (1, 2, 4)
@@ -85,7 +86,7 @@ def whole_table(_, path):
         books = [[ours, "schedule", path, "--workers", workers] for workers in WORKERS]
         assert printed(line) == printed(books[0]) == printed(books[-1]), "the tables differ"
         count = [instructions(command) / 1000 for command in (line, books[0])]
-        taken = [f"{1000 * least(4 * RUNS, command)[0]:.2f}" for command in (line, *books)]
+        taken = [f"{1000 * time:.2f}" for time in least_in_turns(8 * RUNS, [line, *books])]
         row(*cells, *(f"{figure:,.0f}" for figure in count), f"{count[1] / count[0]:.2f}", *taken)
 
 

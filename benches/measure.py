@@ -61,6 +61,12 @@ def least(runs, command, status=0):
     return [min(column) for column in zip(*(seconds(command, status) for _ in range(runs)))]
 
 
+def least_in_turns(runs, commands):
+    """The least time by the clock of each command: they take turns, so that all meet the same machine."""
+    rounds = [[seconds(command)[0] for command in commands] for _ in range(runs)]
+    return [min(column) for column in zip(*rounds)]
+
+
 def machine():
     """The processor, how many there are, and how much else they do."""
     models = [line.split(":")[1].strip() for line in open("/proc/cpuinfo") if line.startswith("model name")]

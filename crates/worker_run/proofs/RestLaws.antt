@@ -1,12 +1,13 @@
 -- Passes of a book before and after their work, as lists.
-use Rattle.std.proofs.Common.{◌≡◌, ◌∙◌, ap, sym, subst, ℕ, zero, suc, ◌+◌, ◌<◌, arith, true, List, [], ◌∷◌, ◌++◌, length, get_or, length-append}
+use Rattle.std.proofs.Common.{◌≡◌, ◌∙◌, ap, sym, subst, subst₂, inl, inr, ℕ, zero, suc, ◌+◌, ◌<◌, arith, true, List, [], ◌∷◌, ◌++◌, length, get_or, length-append}
 use Rattle.std.specs.List.{All}
+use Rattle.std.proofs.lemmas.Bool.{cases_lt}
 use Rattle.std.proofs.lemmas.List.{get_or_append_left}
 use Rattle.std.proofs.lemmas.List.Elements.{All-push}
 use Rattle.std.proofs.Math.Seq.{get_or-append_seam}
 use Rattle.book_rule.specs.declared.view.View.{View}
 use Rattle.book_table.specs.Passes.{RunningBook, PassToken, IsFree, AreFresh, AreAtRest}
-use Rattle.worker_run.specs.Works.{AllGoOn}
+use Rattle.worker_run.specs.Works.{GoesOn, AllGoOn}
 
 -- a pass that rests
 abbrev pub Rests : PassToken → Type 0
@@ -134,3 +135,26 @@ watched-rest book old new watch after fresh some long free rest on own same rest
     at-rest book (new ++ after ∷ []) count (All-push (IsFree book) new after free own)
     (All-push Rests new after rest (rests (last-rests book old watch fresh some)))
     (numbered-push new after numbers last)
+
+-- passes that go on, and one more after them
+pub go-push : (front front' all : List PassToken) (last last' : PassToken)
+    → all ≡ front ++ last ∷ [] → length front' ≡ length front → AllGoOn front front'
+    → GoesOn last.view last'.view → AllGoOn all (front' ++ last' ∷ [])
+go-push front front' all last last' is long goes goes' =
+    subst (λ (xs : List PassToken). AllGoOn xs (front' ++ last' ∷ [])) (sym is)
+    (λ k d inside. elim (cases_lt k (length front)) [
+      | inl below ↦ rw (
+        get_or_append_left front (last ∷ []) d k below,
+        get_or_append_left front' (last' ∷ []) d k (omega arith),
+      )
+          (goes k d below)
+      | inr above ↦
+          let at : k ≡ length front = omega (arith, length-append front (last ∷ [])) in
+          let at' : k ≡ length front' = omega arith in
+          subst₂ (λ (p q : PassToken). GoesOn p.view q.view)
+          (sym (ap (λ (i : ℕ). get_or (front ++ last ∷ []) i d) at
+          ∙ get_or-append_seam front last [] d))
+          (sym (ap (λ (i : ℕ). get_or (front' ++ last' ∷ []) i d) at'
+          ∙ get_or-append_seam front' last' [] d))
+          goes'
+    ])

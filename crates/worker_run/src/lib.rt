@@ -1,9 +1,9 @@
 //! Workers that book a whole list together, and a watch that tells how far they have come.
 //!
-//! Each worker has a pass of one running book, in a thread of its own where one can be made. It
-//! draws a ticket, searches the position of it ahead of the bookings and offers what it has found,
-//! and books what is due at its known start, until a ticket is past the list; one that is alone only
-//! books. Whatever their steps and in whatever order these come, the closed book is the serial
+//! Each worker has a pass of one running book, in a thread of its own where one can be made, as long
+//! as there is something to book. It draws a ticket, searches the position of it ahead of the bookings
+//! and offers what it has found, and books what is due at its known start, until a ticket is past the
+//! list; one that is alone only books. Whatever their steps and in whatever order these come, the closed book is the serial
 //! schedule. One caller, of three workers and a watch of five looks, where `known` is the serial
 //! schedule of the list, made before on a line of events:
 //!

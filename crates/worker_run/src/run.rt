@@ -24,7 +24,8 @@ pub struct Ran<'n> {
 ///
 /// `passes` are all passes of the book as `open` made them, and `known` is the serial schedule of its
 /// list. Each worker draws tickets, searches their positions ahead and offers what it finds, and books
-/// what is due at its known start; one that is alone only books, in the caller's thread. The gate is
+/// what is due at its known start; one that is alone only books. The last works in the caller's thread,
+/// and the others in threads that one of them starts, if there is something to book by then. The gate is
 /// called at `Searched` after each search ahead, and at the points of `advance_known`. No memory is
 /// taken.
 pub fn book_all<'n, R: Threads + Sync, G: Gate + Sync>(
@@ -114,20 +115,21 @@ fn work_and_look_on<R: Threads + Sync, G: Gate + Sync, N: Sink + Send>(
     book: &Book<'_>,
     known: &Schedule,
     gate: &G,
-    passes: &mut [Pass],
+    passes: &mut Vec<Pass>,
     pass: &mut Pass,
     times: u32,
     out: &mut [u32],
     note: &mut N,
 ) -> bool
-    requires workers { All (IsFree book.now) passes.old }
+    requires workers { All (IsFree book.now) passes.old.items }
     requires watch { IsFree book.now pass.old }
     requires room { count book.now.listing ≤ length out.old }
     requires known { known.now
         ≡ serial_schedule (project_of book.now.listing) book.now.listing.order }
-    ensures workers { All (IsFree book.now) passes.new }
-    ensures rest { All (λ pass. pass.view.resting ≡ true) passes.new }
-    ensures go { AllGoOn passes.old passes.new }
+    ensures workers { All (IsFree book.now) passes.new.items }
+    ensures rest { All (λ pass. pass.view.resting ≡ true) passes.new.items }
+    ensures go { AllGoOn passes.old.items passes.new.items }
+    ensures long { length passes.new.items ≡ length passes.old.items }
     ensures watch { IsFree book.now pass.new }
     ensures number { pass.new.view.number ≡ pass.old.view.number }
     ensures rests { pass.old.view.resting ≡ true → pass.new.view.resting ≡ true }
@@ -139,7 +141,7 @@ fn work_and_look_on<R: Threads + Sync, G: Gate + Sync, N: Sink + Send>(
     let (_, failed) = join_mut(
         rt,
         &mut ||
-            requires workers { All (IsFree book.now) passes.now }
+            requires workers { All (IsFree book.now) passes.now.items }
             requires known { known.now
                 ≡ serial_schedule (project_of book.now.listing) book.now.listing.order }
         { work_all(rt, book, known, gate, passes) },

@@ -1,13 +1,10 @@
-use Rattle.std.proofs.Common.{◌≡◌, ◌∙◌, ap, sym, subst, ℕ, false, Option, Some, List, [], ◌∷◌, ◌++◌, length, MatchOption}
-use Rattle.std.specs.List.{All}
-use Rattle.std.proofs.lemmas.List.{with_items_is}
+use Rattle.std.proofs.Common.{◌≡◌, ap, sym, subst, ℕ, false, Option, Some, List, [], ◌∷◌, ◌++◌, MatchOption}
 use Rattle.book_rule.specs.Listed.{count}
-use Rattle.book_table.specs.Passes.{RunningBook, PassToken, IsFree, AreFresh, AreAtRest, all_of}
+use Rattle.book_table.specs.Passes.{RunningBook, PassToken, IsFree, AreFresh, all_of}
 use Rattle.worker_run.specs.declared.watch.Watch.{Watch}
 use Rattle.worker_run.specs.Lines.{report_line}
 use Rattle.worker_run.specs.Told.{Takes, TellsRun}
 use Rattle.worker_run.specs.Watching.{pass_of}
-use Rattle.worker_run.specs.Works.{AllGoOn}
 use Rattle.worker_run.proofs.RestLaws.{fresh-free, front-all, last-is, watched-rest}
 use Rattle.worker_run.proofs.TellLaws.{run-told}
 use Rattle.worker_run.proofs.run.run_book.Goals as goal
@@ -26,8 +23,7 @@ work_and_look_on-failed-requires-clause-workers g c κs within =
     let passes = c.args.passes.items in
     let watch = c.in-Some.watch in
     let fresh = with-watch book passes c.args.watch watch c.in-Some.is c.requires.fresh in
-    subst (All (IsFree book)) (sym c.deref_mut.ensures.value)
-    (front-all (IsFree book) passes watch.pass (fresh-free book (passes ++ watch.pass ∷ []) fresh))
+    front-all (IsFree book) passes watch.pass (fresh-free book (passes ++ watch.pass ∷ []) fresh)
 
 pub work_and_look_on-failed-requires-clause-watch :
     goal.work_and_look_on-failed-requires-clause-watch
@@ -45,16 +41,9 @@ close-requires g c =
     let watch = c.in-Some.watch in
     let done = c.work_and_look_on-failed in
     let fresh = with-watch book passes c.args.watch watch c.in-Some.is c.requires.fresh in
-    let on = subst (λ (old : List PassToken). AllGoOn old done.new.passes)
-    c.deref_mut.ensures.value done.ensures.go in
-    let long : length done.new.passes ≡ length passes =
-    done.auto.passes ∙ ap length c.deref_mut.ensures.value in
-    let back = with_items_is c.args.passes done.new.passes
-    (done.auto.passes ∙ c.deref_mut.ensures.len) in
-    subst (λ (news : List PassToken). AreAtRest book (news ++ done.new.pass ∷ [])) (sym back)
-    (watched-rest book passes done.new.passes watch.pass done.new.pass fresh c.requires.some long
-    done.ensures.workers done.ensures.rest on done.ensures.watch
-    done.ensures.number done.ensures.rests)
+    watched-rest book passes done.new.passes.items watch.pass done.new.pass fresh c.requires.some
+    done.ensures.long done.ensures.workers done.ensures.rest done.ensures.go done.ensures.watch
+    done.ensures.number done.ensures.rests
 
 pub returns-clause-told : goal.returns-clause-told
 returns-clause-told g c =
